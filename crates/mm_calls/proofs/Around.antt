@@ -15,11 +15,11 @@ use Rattle.mm_world.specs.WellFormed.{WellFormed}
 use Rattle.mm_world.proofs.{same_place, is_placed, found_stands, and-true, laid_at, inside, holds_first, Inside, lies, each-at, charge-set_region}
 use Rattle.mm_world.proofs.{sum_by-put}
 use Rattle.mm_sections.specs.{number_of_block, uncommitted_in}
-use Rattle.mm_spaces.specs.{RegionInfo, found_info, owned_in, rows_of, unmarked_in}
-use Rattle.mm_tables.specs.{newly_marked, new_marks}
-use Rattle.mm_tables.proofs.{one_if, count-change_range, count-all, length-range, allowed, one_or_other, protect_count}
-use Rattle.mm_tables.proofs.Lists.{counted}
-use Rattle.mm_tables.proofs.Rows as rows
+use Rattle.mm_address_spaces.specs.{RegionInfo, found_info, owned_in, rows_of, unmarked_in}
+use Rattle.mm_object_tables.specs.{newly_marked, new_marks}
+use Rattle.mm_object_tables.proofs.{one_if, count-change_range, count-all, length-range, allowed, one_or_other, protect_count}
+use Rattle.mm_object_tables.proofs.Lists.{counted}
+use Rattle.mm_object_tables.proofs.Rows as rows
 
 -- what was told was told of something
 pub mapped : {A C : Type 0} (f : A → C) (o : Option A) (y : C) → option_map f o ≡ Some y → (x : A) × ((o ≡ Some x) × (f x ≡ y))

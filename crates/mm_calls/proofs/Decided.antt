@@ -24,10 +24,10 @@ use Rattle.mm_world.proofs.{at_met, at_unmet, at_found, at_missing, at_alive, ch
 use Rattle.mm_world.proofs.{tables_back}
 use Rattle.mm_world.proofs.Natural.{in_alloc, in_protect}
 use Rattle.mm_sections.specs.{uncommitted_in}
-use Rattle.mm_pages.specs.{StoreOf}
-use Rattle.mm_spaces.specs.{owned_in, RegionInfo, found_info}
-use Rattle.mm_tables.specs.{new_marks, new_pages, FitsTables, Called}
-use Rattle.mm_tables.proofs.{reserve_charge, count-replicate, not-true, called_by, carries_same}
+use Rattle.mm_store.specs.{StoreOf}
+use Rattle.mm_address_spaces.specs.{owned_in, RegionInfo, found_info}
+use Rattle.mm_object_tables.specs.{new_marks, new_pages, FitsTables, Called}
+use Rattle.mm_object_tables.proofs.{reserve_charge, count-replicate, not-true, called_by, carries_same}
 use Rattle.mm_calls.specs.{protect_pages, freed_pages, place_view, allocates_anew, marks_anew, after_watch}
 use Rattle.mm_calls.proofs.Around.{in_section, range_in_section, around, mapped, private_at_is, private_around_is, told_is, commit_charge, protect_charge, area_charge_more, no_marks}
 use Rattle.mm_calls.proofs.Exits.{ChangesWithin}

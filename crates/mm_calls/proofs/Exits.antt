@@ -9,10 +9,10 @@ use Rattle.mm_types.specs.declared.codes.Code.TheVariants as code
 use Rattle.mm_world.specs.{ProcessOf, charge, limit, Tables, blank, process_of, OutcomeOf, done, is_success, refused, within_limit}
 use Rattle.mm_world.specs.Alloc.{commit_pages}
 use Rattle.mm_world.proofs.{at_room, at_limit}
-use Rattle.mm_pages.specs.{Ghosts as PagesGhosts, Turn, Makes}
-use Rattle.mm_pages.proofs.{turns_same}
-use Rattle.mm_tables.specs.{FitsTables, Settled, PassesAs, MakesPages, MakesWithin, SettlesTables, StaysIdle, Called}
-use Rattle.mm_tables.proofs.{settled_same, called_by}
+use Rattle.mm_store.specs.{Ghosts as PagesGhosts, Turn, Makes}
+use Rattle.mm_store.proofs.{turns_same}
+use Rattle.mm_object_tables.specs.{FitsTables, Settled, PassesAs, MakesPages, MakesWithin, SettlesTables, StaysIdle, Called}
+use Rattle.mm_object_tables.proofs.{settled_same, called_by}
 use Rattle.mm_calls.specs.{CommitsRange, DecidesIn, LacksMemory, LosesPages, MakesIn, AnswersCall}
 
 pub some_marks : (n : ℕ) → (n ≡ 0 → ⊥) → 1 ≤ n

@@ -7,19 +7,19 @@ use Rattle.std.proofs.lemmas.List.{append-nil}
 use Rattle.mm_types.specs.{Kind, View, Range, page_of, range_of, end_of, Answer, Key, Block, Move}
 use Rattle.mm_types.specs.declared.views.Kind.TheVariants as kind
 use Rattle.mm_types.specs.declared.answers.Answer.TheVariants as answer
-use Rattle.mm_life.specs.{numbers_from, FrameLife, after_move, Replays}
-use Rattle.mm_blocks.specs.{CallFailed}
-use Rattle.mm_blocks.proofs.{all_served_later, failed_later}
+use Rattle.mm_move_rules.specs.{numbers_from, FrameLife, after_move, Replays}
+use Rattle.mm_devices.specs.{CallFailed}
+use Rattle.mm_devices.proofs.{all_served_later, failed_later}
 use Rattle.mm_world.specs.{RegionOf, ProcessOf, pages_of, Found, process_of, area_at, Tables, shared_key, flushed_view, flushed_range, Page}
-use Rattle.mm_pages.specs.{Ghosts as PagesGhosts, Served, wrote, StoreOf, FlushedAt, ends_lost, life_through, ByMoves, FlushesPage, Flushes, PassesIn}
-use Rattle.mm_pages.specs.{Turns, MakesFrom}
+use Rattle.mm_store.specs.{Ghosts as PagesGhosts, Served, wrote, StoreOf, FlushedAt, ends_lost, life_through, ByMoves, FlushesPage, Flushes, PassesIn}
+use Rattle.mm_store.specs.{Turns, MakesFrom}
 use Rattle.mm_sections.specs.{number_of_block}
-use Rattle.mm_pages.proofs.{served_none, served_then, Joins, passes_then, moved_then, turns_same}
-use Rattle.mm_pages.specs.Behind.{Behind}
-use Rattle.mm_pages.specs.Flushing.{Flushing}
-use Rattle.mm_pages.proofs.Passed as passed
-use Rattle.mm_tables.proofs.{one_if, fits_wrote}
-use Rattle.mm_tables.specs.{FitsTables, IsTidy}
+use Rattle.mm_store.proofs.{served_none, served_then, Joins, passes_then, moved_then, turns_same}
+use Rattle.mm_store.specs.Behind.{Behind}
+use Rattle.mm_store.specs.Flushing.{Flushing}
+use Rattle.mm_store.proofs.Passed as passed
+use Rattle.mm_object_tables.proofs.{one_if, fits_wrote}
+use Rattle.mm_object_tables.specs.{FitsTables, IsTidy}
 use Rattle.mm_calls.specs.{keys_from, keys_of_region, flushed_keys, AnswersFlush, FlushesBlocks, AreHeld, InBlocks}
 use Rattle.mm_calls.proofs.Around.{mapped}
 

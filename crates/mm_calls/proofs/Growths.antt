@@ -24,8 +24,8 @@ use Rattle.mm_world.specs.WellFormed.{WellFormed}
 use Rattle.mm_world.proofs.CallEdits as calls
 use Rattle.mm_world.proofs.KeptWrites as kept
 use Rattle.mm_world.proofs.LineEdits as lines
-use Rattle.mm_tables.proofs.{one_if, count-next, process_set_same, holds}
-use Rattle.mm_tables.proofs.Rows as rows
+use Rattle.mm_object_tables.proofs.{one_if, count-next, process_set_same, holds}
+use Rattle.mm_object_tables.proofs.Rows as rows
 use Rattle.mm_calls.specs.{ProbeIn, probed, has_grown, growths, guard_lowered, NothingLeft, Overflows, StackGrows, grows, StackStandsIn}
 use Rattle.mm_calls.proofs.Touching.{at_nobody, at_ended, at_bare, chosen, reached, at_overflow, off, at_growth, alloc_commits}
 use Rattle.mm_calls.proofs.Around.{around_is, has_own, in_range}

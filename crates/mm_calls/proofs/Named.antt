@@ -13,9 +13,9 @@ use Rattle.mm_world.specs.{Page, ProcessOf, SectionOf, FileOf, filled, process_o
 use Rattle.mm_world.specs.{BytesAfter, done, within_limit, create, handle_or, next_handle, with_handle, file_named, new_section, paging_area}
 use Rattle.mm_world.specs.{section_prot, are_section_flags, largest_section, numbered, no_area, BytesAfterFile, file_bytes}
 use Rattle.mm_world.proofs.{at_alive, at_met, each-at, and-true}
-use Rattle.mm_pages.specs.{StoreOf, with_file}
+use Rattle.mm_store.specs.{StoreOf, with_file}
 use Rattle.mm_sections.specs.{id_of, area_of}
-use Rattle.mm_tables.specs.{FitsTables, Called, Settled, CarriesPages, key_bytes, IsTidy}
+use Rattle.mm_object_tables.specs.{FitsTables, Called, Settled, CarriesPages, key_bytes, IsTidy}
 use Rattle.mm_calls.proofs.Around.{mapped}
 
 named_lives : (t : Tables) (name : Text) (n : ℕ) → section_named t name ≡ Some n → is_some (section_of t n) ≡ true

@@ -11,9 +11,9 @@ use Rattle.mm_world.specs.{grown, is_overflow, alloc, RegionOf, pages_of, charge
 use Rattle.mm_world.proofs.{equal as is_same, same_page as same_number, charge-guard_off, is_placed, found_stands, committed_is, and-true}
 use Rattle.mm_world.specs.Alloc.{commit_pages}
 use Rattle.mm_world.specs.WellFormed.{WellFormed}
-use Rattle.mm_pages.specs.{StoreOf}
-use Rattle.mm_tables.specs.{CommittedRow, FitsTables, Settled, committed_row}
-use Rattle.mm_tables.proofs.{process_set_same}
+use Rattle.mm_store.specs.{StoreOf}
+use Rattle.mm_object_tables.specs.{CommittedRow, FitsTables, Settled, committed_row}
+use Rattle.mm_object_tables.proofs.{process_set_same}
 use Rattle.mm_calls.specs.{grows, guard_lowered}
 use Rattle.mm_calls.proofs.Growths.{grows_by}
 use Rattle.mm_calls.proofs.Touching.{IsTold, told, at_other, at_overflow, at_growth, alloc_commits}

@@ -16,13 +16,13 @@ use Rattle.mm_world.specs.{change_range, Page, content_of, own_page, pages_of, F
 use Rattle.mm_world.specs.Stack.{commit_pages}
 use Rattle.mm_world.proofs.{charge-set_regions, and-true, at_alive, at_met, at_found, sum_by-split, is_placed, length-change_range, Inside}
 use Rattle.mm_world.specs.WellFormed.{WellFormed}
-use Rattle.mm_pages.specs.{StoreOf}
-use Rattle.mm_spaces.specs.{owned_in}
-use Rattle.mm_tables.proofs.{count-replicate, beside_then, regions_in, content_is, regions_of_process, regions_set_same, regions_set_other}
-use Rattle.mm_tables.proofs.{process_set_same}
-use Rattle.mm_tables.specs.{FitsTables, Settled, Carried}
-use Rattle.mm_tables.proofs.Regional as regional
-use Rattle.mm_tables.proofs.Rows as rows
+use Rattle.mm_store.specs.{StoreOf}
+use Rattle.mm_address_spaces.specs.{owned_in}
+use Rattle.mm_object_tables.proofs.{count-replicate, beside_then, regions_in, content_is, regions_of_process, regions_set_same, regions_set_other}
+use Rattle.mm_object_tables.proofs.{process_set_same}
+use Rattle.mm_object_tables.specs.{FitsTables, Settled, Carried}
+use Rattle.mm_object_tables.proofs.Regional as regional
+use Rattle.mm_object_tables.proofs.Rows as rows
 use Rattle.mm_calls.proofs.Around.{mapped, around, around_is, has_own}
 use Rattle.mm_calls.proofs.Exits.{ChangesWithin}
 use Rattle.mm_calls.proofs.Around.{commit_charge}

@@ -10,7 +10,7 @@ use Rattle.mm_types.specs.{address_of, page_of, range_of, permits, commit_type}
 use Rattle.mm_world.specs.{WorldOf, ProcessOf, StackOf, process_of, stack_by, Committed, committed_at, guard_off, OutcomeOf, done, alloc, reserve}
 use Rattle.mm_world.specs.{Tables, probe, probe_of, probe_in, probe_at, grown, is_overflow}
 use Rattle.mm_world.specs.Alloc.{commit_pages}
-use Rattle.mm_tables.specs.{CommittedRow, committed_row, told_committed}
+use Rattle.mm_object_tables.specs.{CommittedRow, committed_row, told_committed}
 use Rattle.mm_world.proofs.{at_alive}
 use Rattle.mm_calls.proofs.Around.{mapped}
 

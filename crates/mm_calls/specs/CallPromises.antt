@@ -5,8 +5,8 @@ use Rattle.mm_types.specs.{Answer, NoMemory, Key, Pid, Range}
 use Rattle.mm_types.specs.declared.moves.LineKind.TheVariants as line_kind
 use Rattle.mm_world.specs.{Page, ProcessOf, charge, limit, Tables, blank, process_of, OutcomeOf, is_success, new_process, most_processes}
 use Rattle.mm_world.specs.Alloc.{commit_pages}
-use Rattle.mm_pages.specs.{Ghosts as PagesGhosts, Turn, MakesFrom, MakesStack, leaving, StoreOf, Goes}
-use Rattle.mm_tables.specs.{FitsTables, Called, Settled, before_process, is_uncommitted, store_beside, PassesAs, MakesPages, StandsFrom}
+use Rattle.mm_store.specs.{Ghosts as PagesGhosts, Turn, MakesFrom, MakesStack, leaving, StoreOf, Goes}
+use Rattle.mm_object_tables.specs.{FitsTables, Called, Settled, before_process, is_uncommitted, store_beside, PassesAs, MakesPages, StandsFrom}
 
 -- a stack of these pages has room for its top pages, its guard page and one page more
 pub record IsTallEnough (top : ℕ) (range : Range) : Type 0 where

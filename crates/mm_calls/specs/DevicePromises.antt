@@ -3,10 +3,10 @@
 use Rattle.std.specs.Prelude.{◌≡◌, ◌≤◌, ◌<◌, ℕ, true, false, length}
 use Rattle.mm_types.specs.{Answer, Rose, Text}
 use Rattle.mm_types.specs.declared.answers.Answer.TheVariants as answer
-use Rattle.mm_blocks.specs.{CallFailed}
+use Rattle.mm_devices.specs.{CallFailed}
 use Rattle.mm_world.specs.{Tables, BytesAfterFile, is_failed_extension}
-use Rattle.mm_pages.specs.{Ghosts as PagesGhosts, Served, begun, wrote}
-use Rattle.mm_tables.specs.{FitsTables, beside_file, extended, file_told, grow_told, key_bytes}
+use Rattle.mm_store.specs.{Ghosts as PagesGhosts, Served, begun, wrote}
+use Rattle.mm_object_tables.specs.{FitsTables, beside_file, extended, file_told, grow_told, key_bytes}
 use Rattle.mm_calls.specs.Stages.{AreHeld, NewFileMade}
 
 module _ {G : Type 0} (p : PagesGhosts G) where

@@ -5,8 +5,8 @@ use Rattle.mm_types.specs.{Answer, Move}
 use Rattle.mm_types.specs.declared.answers.Answer.TheVariants as answer
 use Rattle.mm_types.specs.declared.moves.LineKind.TheVariants as kind
 use Rattle.mm_types.specs.declared.moves.Move.TheVariants as move
-use Rattle.mm_pages.specs.Behind.{Behind}
-use Rattle.mm_pages.specs.{Grows, OneMove, NoMove}
+use Rattle.mm_store.specs.Behind.{Behind}
+use Rattle.mm_store.specs.{Grows, OneMove, NoMove}
 
 -- the paging file has grown, or it is the line of a call that changed nothing; without memory no
 -- line has begun

@@ -4,7 +4,7 @@ use Rattle.std.specs.Prelude.{◌≡◌, ℕ, false, Some, slice_get}
 use Rattle.mm_types.specs.declared.views.Kind.TheVariants as kind
 use Rattle.mm_types.specs.{Range, reserve_type, readwrite}
 use Rattle.mm_world.specs.{RegionOf, ProcessOf, Found, process_of, region_around, private_region, Tables, blank}
-use Rattle.mm_spaces.specs.{owned_in}
+use Rattle.mm_address_spaces.specs.{owned_in}
 
 -- a region of which no page is committed
 abbrev pub reserved_region : Range → RegionOf (Unit {0})

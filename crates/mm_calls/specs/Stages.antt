@@ -5,11 +5,11 @@ use Rattle.mm_types.specs.{Answer, Key, Kind, View, ViewAccess, Range, page_of, 
 use Rattle.mm_types.specs.declared.answers.Answer.TheVariants as answer
 use Rattle.mm_types.specs.declared.codes.Code.TheVariants as code
 use Rattle.mm_types.specs.declared.views.Kind.TheVariants as kind
-use Rattle.mm_pages.specs.{WritesFile, StoreOf}
+use Rattle.mm_store.specs.{WritesFile, StoreOf}
 use Rattle.mm_world.specs.{Page, ProcessOf, RegionOf, SectionOf, Found, process_of, add_region, ranges_of, set_regions, area_at, placed, Tables}
 use Rattle.mm_world.specs.{blank, shared_key, OutcomeOf, done, need, find_or, within_limit, new_section, paging_area, section_prot, may_view}
 use Rattle.mm_world.specs.{view_region, flushed_view, flushed_range, pages_of, private_at, private_around}
-use Rattle.mm_life.specs.{numbers_from}
+use Rattle.mm_move_rules.specs.{numbers_from}
 
 -- the pages of a view of a section of `total` pages, from the page `first` on; length 0 means to
 -- the section's end

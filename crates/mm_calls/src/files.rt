@@ -3,15 +3,15 @@ ghost use Rattle.mm_types.specs.declared.answers.Answer.TheVariants as answer;
 ghost use Rattle.mm_types.specs.declared.moves.LineKind.TheVariants as line_kind;
 ghost use Rattle.mm_types.specs.{range_of};
 ghost use Rattle.mm_world.specs.{area_at, blank, is_success, new_file};
-ghost use Rattle.mm_pages.specs.{Turns, Makes, Flushes, PassesIn, NotesIn};
-ghost use Rattle.mm_tables.specs.{IsFew, BlocksHold, flush_told, file_block_in};
+ghost use Rattle.mm_store.specs.{Turns, Makes, Flushes, PassesIn, NotesIn};
+ghost use Rattle.mm_object_tables.specs.{IsFew, BlocksHold, flush_told, file_block_in};
 ghost use Rattle.mm_calls.specs.{AreHeld, InBlocks, keys_from, flushed_keys, BeginsWrites, ChangesNothing, AnswersFile, AnswersFlush, FlushesBlocks};
 ghost use Rattle.mm_calls.specs.{HoldsPages, FailsWrite};
 
 use crate::views::view_of;
-use mm_pages::Pages;
-use mm_spaces::PageRange;
-use mm_tables::Tables;
+use mm_store::Pages;
+use mm_address_spaces::PageRange;
+use mm_object_tables::Tables;
 use mm_types::{Answer, Area, Block, Code, Key, MakeFault, Name, NoMemory, Pid, View, WriteFault};
 use std::alloc::Global;
 
@@ -21,7 +21,7 @@ use std::alloc::Global;
 /// In this order: `AlreadyExists` where a file has the name; `Full` where fewer blocks are left;
 /// `Fault` exactly where a write of the file device failed, and then there is no file. After
 /// `NoMemory`, which neither refusal comes to, nothing has changed.
-#[tactic(auto, using(mm_tables::proofs::Turning::notes_nothing, mm_pages::proofs::Served::served_none))]
+#[tactic(auto, using(mm_object_tables::proofs::Turning::notes_nothing, mm_store::proofs::Served::served_none))]
 pub fn new_file<G: Pages>(
     allocator: Global,
     t: &mut Tables,
@@ -61,7 +61,7 @@ pub fn new_file<G: Pages>(
 /// In this order: `InvalidHandle` for a process that does not live; `InvalidAddress` where the
 /// range does not lie in one view; `Fault` exactly where a write of the file device failed; the
 /// pages before it were written.
-#[tactic(auto, using(mm_pages::proofs::Served::served_none))]
+#[tactic(auto, using(mm_store::proofs::Served::served_none))]
 pub fn flush_view<G: Pages>(t: &Tables, g: &mut G, pid: Pid, addr: u32, size: u32) -> Answer
     requires begins { BeginsWrites G.Pages t.now g.old }
     ensures outcome { flush_told t.now pid.0 addr size (G.store g.new).report ≡ record {
@@ -109,7 +109,7 @@ fn flushed_count(size: u32, left: u32, meant: u32) -> u32
 
 /// Flushes `count` pages of a view from its page `before` on; those of a page-file section have no
 /// blocks.
-#[tactic(auto, using(mm_pages::proofs::Served::served_none))]
+#[tactic(auto, using(mm_store::proofs::Served::served_none))]
 fn flush_view_pages<G: Pages>(t: &Tables, g: &mut G, view: View, before: u32, count: u32) -> Answer
     requires begins { BeginsWrites G.Pages t.now g.old }
     requires area { view.area.0 < length t.now.areas }

@@ -3,7 +3,7 @@
 //! that grows. On sections, views and files: CreateFileMapping, OpenFileMapping, CloseHandle,
 //! MapViewOfFile, UnmapViewOfFile, FlushViewOfFile, CreateFile; ExitProcess. And stacks of threads,
 //! which grow through their guard page. Each decides by the tables, and changes them by one call of
-//! `mm_tables`.
+//! `mm_object_tables`.
 #![tactic(auto)]
 
 mod files;

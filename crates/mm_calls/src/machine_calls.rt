@@ -1,11 +1,11 @@
 ghost use Rattle.std.specs.Prelude.{◌≡◌, ◌≤◌, ◌+◌, ◌-◌, false, length, nat_le, IfOk, IsOk, OnErr};
 ghost use Rattle.mm_world.specs.{is_success, grow, new_process, most_processes, exit};
-ghost use Rattle.mm_pages.specs.{begun, NotesIn};
+ghost use Rattle.mm_store.specs.{begun, NotesIn};
 ghost use Rattle.mm_calls.specs.{GrowsBy, BeginsProcess, BeginsRelease, AnswersCall, ChangesNothing, LosesPages, AnswersGrow};
-ghost use Rattle.mm_tables.specs.{FitsTables, StaysIdle};
+ghost use Rattle.mm_object_tables.specs.{FitsTables, StaysIdle};
 
-use mm_pages::Pages;
-use mm_tables::Tables;
+use mm_store::Pages;
+use mm_object_tables::Tables;
 use mm_types::{Answer, Code, GrowFault, LineKind, NoMemory, Pid};
 use std::alloc::Global;
 
@@ -17,7 +17,7 @@ const SLOTS: u32 = 262_144;
 ///
 /// `Full` exactly where 64 processes were made. `NoMemory`, after which tables and store are as
 /// before and no call of this line can follow, comes only where it is not `Full`.
-#[tactic(auto, using(mm_pages::proofs::Passed::turns_same))]
+#[tactic(auto, using(mm_store::proofs::Passed::turns_same))]
 pub fn new_process<G: Pages>(
     allocator: Global,
     t: &mut Tables,
@@ -44,7 +44,7 @@ pub fn new_process<G: Pages>(
 /// released, and with them the stacks of threads in it; what threads keep of it is dropped.
 ///
 /// `InvalidHandle` for a process that does not live.
-#[tactic(auto, using(mm_pages::proofs::Passed::turns_same))]
+#[tactic(auto, using(mm_store::proofs::Passed::turns_same))]
 pub fn end_process<G: Pages>(t: &mut Tables, g: &mut G, pid: Pid) -> Answer
     requires begins { BeginsRelease G.Pages pid t.old g.old }
     ensures done { AnswersCall G.Pages (exit t.old pid.0) t.old g.old result t.new g.new }

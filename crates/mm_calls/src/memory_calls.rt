@@ -3,8 +3,8 @@ ghost use Rattle.mm_types.specs.declared.moves.LineKind.TheVariants as line_kind
 ghost use Rattle.mm_types.specs.declared.views.Kind.TheVariants as view_kind;
 ghost use Rattle.mm_world.specs.{RegionOf, ProcessOf, Found, charge, process_of, region_around, blank, alloc, reserve, free, protect};
 ghost use Rattle.mm_world.specs.{is_protection_among, private_protections, all_protections, is_committed_at, every_page};
-ghost use Rattle.mm_spaces.specs.{found_info, IsAsked};
-ghost use Rattle.mm_tables.specs.{new_marks, IsReadyFor, MakesPages, StaysIdle};
+ghost use Rattle.mm_address_spaces.specs.{found_info, IsAsked};
+ghost use Rattle.mm_object_tables.specs.{new_marks, IsReadyFor, MakesPages, StaysIdle};
 ghost use Rattle.mm_calls.specs.{allocates_anew, protect_pages, marks_anew, freed_pages, BeginsCall, BeginsRelease, AnswersCall, DecidesIn, MakesIn};
 ghost use Rattle.mm_calls.specs.{LacksMemory, LosesPages, CommitsRange};
 
@@ -12,9 +12,9 @@ use crate::parameters::{
     are_alloc_parameters, are_free_parameters, are_protect_parameters, is_reserving,
     is_watched_type, new_pages, plain_type,
 };
-use mm_pages::Pages;
-use mm_spaces::{AddressSpace, PageRange, ProtectInfo};
-use mm_tables::Tables;
+use mm_store::Pages;
+use mm_address_spaces::{AddressSpace, PageRange, ProtectInfo};
+use mm_object_tables::Tables;
 use mm_types::{AllocFlags, Answer, Code, Kind, NoMemory, PAGE_SIZE, Pid, Prot, View};
 use std::alloc::Global;
 
@@ -27,7 +27,7 @@ use std::alloc::Global;
 /// of a page-file section; `InvalidParameter` where a page of a view does not accept the
 /// protection; `CommitmentLimit` where the charge would pass the limit. `NoMemory` comes only where
 /// a region is made, or a page committed that was not; then tables and pages are as before.
-#[tactic(auto, using(mm_pages::proofs::Passed::turns_same))]
+#[tactic(auto, using(mm_store::proofs::Passed::turns_same))]
 pub fn valloc<G: Pages>(
     allocator: Global,
     t: &mut Tables,
@@ -61,7 +61,7 @@ pub fn valloc<G: Pages>(
 }
 
 /// Reserves pages of a living process, watched or not, and commits them where the type says so.
-#[tactic(auto, using(mm_pages::proofs::Passed::turns_same))]
+#[tactic(auto, using(mm_store::proofs::Passed::turns_same))]
 fn reserve<G: Pages>(
     allocator: Global,
     t: &mut Tables,
@@ -95,7 +95,7 @@ fn reserve<G: Pages>(
 
 /// Commits pages of a living process, in a private region or in a view, as `valloc` does.
 /// `NoMemory` comes only where the store has no room for them.
-#[tactic(auto, using(mm_pages::proofs::Passed::turns_same))]
+#[tactic(auto, using(mm_store::proofs::Passed::turns_same))]
 pub fn commit<G: Pages>(
     t: &mut Tables,
     g: &mut G,
@@ -130,7 +130,7 @@ pub fn commit<G: Pages>(
 
 /// Commits section pages under pages of the view around them, which has these pages, and gives the
 /// view's rows the protection.
-#[tactic(auto, using(mm_pages::proofs::Passed::turns_same))]
+#[tactic(auto, using(mm_store::proofs::Passed::turns_same))]
 fn commit_view<G: Pages>(
     t: &mut Tables,
     g: &mut G,
@@ -233,7 +233,7 @@ fn freed_pages(t: &Tables, pid: Pid, addr: u32, size: u32) -> Option<PageRange>
 /// region; `InvalidParameter` for a protection that one of them does not accept. `CommitmentLimit`
 /// where the charge of new marks would pass the limit. `NoMemory` comes only where WRITECOPY marks
 /// a page of a view that has no mark yet; then tables and bytes are as before.
-#[tactic(auto, using(mm_pages::proofs::Passed::turns_same))]
+#[tactic(auto, using(mm_store::proofs::Passed::turns_same))]
 pub fn protect<G: Pages>(
     t: &mut Tables,
     g: &mut G,
@@ -259,7 +259,7 @@ pub fn protect<G: Pages>(
 }
 
 /// Gives pages of a living process another protection, which a page can have.
-#[tactic(auto, using(mm_pages::proofs::Passed::turns_same))]
+#[tactic(auto, using(mm_store::proofs::Passed::turns_same))]
 fn protect_range<G: Pages>(
     t: &mut Tables,
     g: &mut G,

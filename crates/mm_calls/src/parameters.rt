@@ -3,9 +3,9 @@ ghost use Rattle.mm_types.specs.{is_granule_address, is_user_page};
 ghost use Rattle.mm_world.specs.{are_alloc_parameters, is_reserving, is_watched_type, plain_type, are_free_parameters, are_protect_parameters};
 ghost use Rattle.mm_world.specs.{is_protection_among, private_protections, all_protections, are_section_flags, section_prot, is_reserve};
 ghost use Rattle.mm_world.specs.{largest_section, view_access, may_view};
-ghost use Rattle.mm_tables.specs.{new_pages};
+ghost use Rattle.mm_object_tables.specs.{new_pages};
 
-use mm_spaces::PageRange;
+use mm_address_spaces::PageRange;
 use mm_types::{AllocFlags, END_OF_USER_PAGES, FIRST_USER_PAGE, GRANULE_SIZE, Prot, ViewAccess};
 
 /// MEM_WRITE_WATCH and MEM_RESERVE.

@@ -5,12 +5,12 @@ ghost use Rattle.mm_types.specs.declared.moves.LineKind.TheVariants as line_kind
 ghost use Rattle.mm_world.specs.{ProcessOf, process_of, set_stack, alloc, charge, limit, Committed, committed_at, guard_off, blank, probe};
 ghost use Rattle.mm_world.specs.{is_overflow};
 ghost use Rattle.mm_calls.specs.{grows, guard_lowered, BeginsCall, AnswersCall, LacksMemory, StaysFit};
-ghost use Rattle.mm_tables.specs.{IsReadyFor, MakesPages, SettlesTables};
+ghost use Rattle.mm_object_tables.specs.{IsReadyFor, MakesPages, SettlesTables};
 
 use crate::commit;
-use mm_pages::Pages;
-use mm_spaces::PageRange;
-use mm_tables::{Tables, ThreadStack};
+use mm_store::Pages;
+use mm_address_spaces::PageRange;
+use mm_object_tables::{Tables, ThreadStack};
 use mm_types::{Access, Answer, NoMemory, PAGE_SIZE, Prot, Raise, Tid, permits};
 
 /// Whether a stack cannot grow any more: the page below its guard page is its lowest one, or is not
@@ -35,7 +35,7 @@ fn total_with_one(t: &Tables) -> u32
 
 /// Commits the page below the guard page of a stack with its guard on, and takes the guard of the
 /// guard page off. After `NoMemory` tables and bytes are as before.
-#[tactic(auto, using(mm_pages::proofs::Passed::idle_before))]
+#[tactic(auto, using(mm_store::proofs::Passed::idle_before))]
 fn grow<G: Pages>(t: &mut Tables, g: &mut G, stack: &ThreadStack) -> Result<(), NoMemory>
     requires ready { IsReadyFor G.Pages line_kind.Call (record { 0 = stack.now.pid }) t.old g.old }
     requires committed { (p : ProcessOf (Unit {0})) → process_of t.old stack.now.pid ≡ Some p →
@@ -88,7 +88,7 @@ fn lower(t: &mut Tables, tid: Tid, stack: &ThreadStack) -> Answer
 /// is not committed; `GuardPage` for the guard of another page, and `StackOverflow` where the stack
 /// cannot grow, which take that guard off; the guard page moves; `AccessViolation` where the page
 /// permits no read. `NoMemory` comes only where the stack grows; then nothing has changed.
-#[tactic(auto, using(mm_pages::proofs::Passed::turns_same))]
+#[tactic(auto, using(mm_store::proofs::Passed::turns_same))]
 pub fn probe<G: Pages>(t: &mut Tables, g: &mut G, tid: Tid, addr: u32) -> Result<Answer, NoMemory>
     requires begins { BeginsCall G.Pages t.old g.old }
     ensures done { IfOk result (λ a. AnswersCall G.Pages (probe blank t.old tid.0 addr) t.old g.old

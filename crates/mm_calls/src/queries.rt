@@ -2,13 +2,13 @@ ghost use Rattle.std.specs.Prelude.{◌≡◌, ◌≤◌, true, is_some, map, Op
 ghost use Rattle.mm_types.specs.{Key, address_of, is_user_page};
 ghost use Rattle.mm_world.specs.{Page, RegionOf, ProcessOf, Found, process_of, region_with, query, page_info, watch, reset_watch, watched_around};
 ghost use Rattle.mm_world.specs.{written_in};
-ghost use Rattle.mm_pages.specs.{StoreOf};
-ghost use Rattle.mm_tables.specs.{FitsTables, Called};
+ghost use Rattle.mm_store.specs.{StoreOf};
+ghost use Rattle.mm_object_tables.specs.{FitsTables, Called};
 ghost use Rattle.mm_calls.specs.{after_watch, StaysFit};
 
 use crate::parameters::is_user_page;
-use mm_spaces::{PageInfo, PageRange};
-use mm_tables::Tables;
+use mm_address_spaces::{PageInfo, PageRange};
+use mm_object_tables::Tables;
 use mm_types::{Answer, Code, PAGE_SIZE, PageList, Pid, QueryInfo};
 
 /// `query` (VirtualQuery): what is told of the pages that are alike from the one of the address on.

@@ -4,15 +4,15 @@ ghost use Rattle.mm_types.specs.declared.answers.Answer.TheVariants as answer;
 ghost use Rattle.mm_types.specs.declared.moves.LineKind.TheVariants as line_kind;
 ghost use Rattle.mm_world.specs.{ProcessOf, process_of, section_of, section_named, area_at, blank, is_success, done, next_handle, with_handle};
 ghost use Rattle.mm_world.specs.{new_section, section_prot, create, create_file, open_section, close};
-ghost use Rattle.mm_pages.specs.{Goes, leaving};
+ghost use Rattle.mm_store.specs.{Goes, leaving};
 ghost use Rattle.mm_sections.specs.{id_of};
-ghost use Rattle.mm_tables.specs.{IsFew, IsReadyFor, MakesPages, PassesAs};
+ghost use Rattle.mm_object_tables.specs.{IsFew, IsReadyFor, MakesPages, PassesAs};
 ghost use Rattle.mm_calls.specs.{make_section, BeginsCall, AnswersCall, MakesIn, LacksMemory, StaysSettled};
 
 use crate::parameters::{are_section_flags, are_section_parameters, is_reserve, section_prot};
-use mm_pages::Pages;
-use mm_spaces::pages_for;
-use mm_tables::Tables;
+use mm_store::Pages;
+use mm_address_spaces::pages_for;
+use mm_object_tables::Tables;
 use mm_types::{Answer, Area, Code, Name, NoMemory, Pid, SectionId};
 use std::alloc::Global;
 
@@ -24,7 +24,7 @@ use std::alloc::Global;
 /// that are no protection with or without SEC_COMMIT or SEC_RESERVE, a size of 0 or of more than
 /// 0x7FFE0000; `CommitmentLimit` where the charge of a new section's pages would pass the limit.
 /// After `NoMemory`, which none of these comes to, tables and pages are as before.
-#[tactic(auto, using(mm_pages::proofs::Passed::turns_same))]
+#[tactic(auto, using(mm_store::proofs::Passed::turns_same))]
 pub fn create<G: Pages>(
     allocator: Global,
     t: &mut Tables,
@@ -125,7 +125,7 @@ pub fn open_section(t: &mut Tables, pid: Pid, name: &Name) -> Result<Answer, NoM
 /// section to which neither handle nor view refers ends, and a page-file section's pages with it.
 ///
 /// `InvalidHandle` for a process that does not live, or has no such handle.
-#[tactic(auto, using(mm_pages::proofs::Passed::turns_same))]
+#[tactic(auto, using(mm_store::proofs::Passed::turns_same))]
 pub fn close<G: Pages>(t: &mut Tables, g: &mut G, pid: Pid, handle: u32) -> Answer
     requires begins { BeginsCall G.Pages t.old g.old }
     ensures done { AnswersCall G.Pages (close t.old pid.0 handle) t.old g.old result t.new g.new }
@@ -168,7 +168,7 @@ fn add_existing(t: &mut Tables, pid: Pid, id: SectionId) -> Result<Answer, NoMem
 }
 
 /// A new section of the paging file; no section has its name.
-#[tactic(auto, using(mm_pages::proofs::Passed::turns_same))]
+#[tactic(auto, using(mm_store::proofs::Passed::turns_same))]
 fn add_paging_section<G: Pages>(
     allocator: Global,
     t: &mut Tables,

@@ -5,14 +5,14 @@ ghost use Rattle.mm_types.specs.declared.moves.LineKind.TheVariants as line_kind
 ghost use Rattle.mm_world.specs.{ProcessOf, process_of, add_region, set_regions, set_region, set_stack, charge, limit, blank, is_success};
 ghost use Rattle.mm_world.specs.{is_protection_among, private_protections, change_rows, reserve_pages, stack, stack_region, commit as committed_row};
 ghost use Rattle.mm_world.specs.Stack.{commit_pages};
-ghost use Rattle.mm_pages.specs.{Turn, MakesStack, guard_told};
-ghost use Rattle.mm_tables.specs.{Settled, IsNewPlace, IsNewRange, IsReadyFor, PassesAs, SettlesTables, StaysIdle};
+ghost use Rattle.mm_store.specs.{Turn, MakesStack, guard_told};
+ghost use Rattle.mm_object_tables.specs.{Settled, IsNewPlace, IsNewRange, IsReadyFor, PassesAs, SettlesTables, StaysIdle};
 ghost use Rattle.mm_calls.specs.{IsUncommitted, IsReserved, reserved_region, IsTallEnough, BeginsCall, AnswersCall, LacksMemory, StaysFit};
 ghost use Rattle.mm_calls.specs.{HasRoomFor, MakesInRange, MakesStackPages};
 
-use mm_pages::Pages;
-use mm_spaces::{PageRange, pages_for};
-use mm_tables::{Tables, ThreadStack};
+use mm_store::Pages;
+use mm_address_spaces::{PageRange, pages_for};
+use mm_object_tables::{Tables, ThreadStack};
 use mm_types::{AllocFlags, Answer, Code, GRANULE_PAGES, NoMemory, PAGE_SIZE, Pid, Prot, Tid};
 use std::alloc::Global;
 
@@ -44,7 +44,7 @@ fn commit_pages(size: u32) -> u32
 /// page more do not fit; `InvalidAddress` where there is no gap; `CommitmentLimit` where the charge
 /// would pass the limit. After each of these, and after `NoMemory`, which none of them comes to,
 /// nothing has changed.
-#[tactic(auto, using(mm_pages::proofs::Passed::turns_same))]
+#[tactic(auto, using(mm_store::proofs::Passed::turns_same))]
 pub fn stack<G: Pages>(
     alloc: Global,
     t: &mut Tables,
@@ -119,7 +119,7 @@ fn begin(t: &mut Tables, tid: Tid, pid: Pid, range: PageRange, top: u32) -> Answ
 /// Makes the region of a stack of free pages: the top `top` of them are committed, and the page
 /// below these, its guard page. The limit allows them. After `NoMemory` tables and bytes are as
 /// before.
-#[tactic(auto, using(mm_pages::proofs::Passed::idle_before))]
+#[tactic(auto, using(mm_store::proofs::Passed::idle_before))]
 fn make_region<G: Pages>(
     alloc: Global,
     t: &mut Tables,
@@ -147,7 +147,7 @@ fn make_region<G: Pages>(
 
 /// Reserves free pages for a stack, and takes room for `n` keys more, which the limit allows. After
 /// `NoMemory` tables and bytes are as before.
-#[tactic(auto, using(mm_pages::proofs::Passed::turns_same))]
+#[tactic(auto, using(mm_store::proofs::Passed::turns_same))]
 fn reserve_region<G: Pages>(
     alloc: Global,
     t: &mut Tables,

@@ -5,13 +5,13 @@ ghost use Rattle.mm_types.specs.declared.moves.LineKind.TheVariants as line_kind
 ghost use Rattle.mm_types.specs.declared.views.Kind.TheVariants as view_kind;
 ghost use Rattle.mm_world.specs.{ProcessOf, SectionOf, Found, process_of, section_of, is_private, is_success, find_or, handle_section, is_copy};
 ghost use Rattle.mm_world.specs.{map_view, unmap, ViewFits};
-ghost use Rattle.mm_tables.specs.{IsReadyFor, SettlesTables, StaysIdle};
+ghost use Rattle.mm_object_tables.specs.{IsReadyFor, SettlesTables, StaysIdle};
 ghost use Rattle.mm_calls.specs.{are_viewed, place_view, map_section, BeginsCall, BeginsRelease, AnswersCall, MakesIn, LacksMemory, LosesPages};
 
 use crate::parameters::{is_granule_address, may_view, view_access};
-use mm_pages::Pages;
-use mm_spaces::pages_for;
-use mm_tables::Tables;
+use mm_store::Pages;
+use mm_address_spaces::pages_for;
+use mm_object_tables::Tables;
 use mm_types::{Answer, Code, Kind, NoMemory, PAGE_SIZE, Pid, View, ViewAccess};
 use std::alloc::Global;
 
@@ -25,7 +25,7 @@ use std::alloc::Global;
 /// the view does not lie within its section, or its pages are not free user pages;
 /// `CommitmentLimit` where the charge of a copy view would pass the limit. After `NoMemory`, which
 /// none of these comes to, tables and pages are as before.
-#[tactic(auto, using(mm_pages::proofs::Passed::turns_same))]
+#[tactic(auto, using(mm_store::proofs::Passed::turns_same))]
 pub fn map<G: Pages>(
     allocator: Global,
     t: &mut Tables,
@@ -68,7 +68,7 @@ pub fn map<G: Pages>(
 }
 
 /// Maps a view of the section of a handle of a living process.
-#[tactic(auto, using(mm_pages::proofs::Passed::turns_same))]
+#[tactic(auto, using(mm_store::proofs::Passed::turns_same))]
 fn map_handle<G: Pages>(
     allocator: Global,
     t: &mut Tables,
@@ -133,7 +133,7 @@ fn viewed_pages(total: u32, first: u32, view_length: u32) -> Option<u32>
 }
 
 /// Places a view of `count` pages, which lies within its section.
-#[tactic(auto, using(mm_pages::proofs::Passed::turns_same))]
+#[tactic(auto, using(mm_store::proofs::Passed::turns_same))]
 fn place_view<G: Pages>(
     allocator: Global,
     t: &mut Tables,
@@ -189,7 +189,7 @@ fn charged_pages(access: ViewAccess, count: u32) -> u32
 ///
 /// `InvalidHandle` for a process that does not live; `InvalidAddress` where no view has the address
 /// as its base, to the byte.
-#[tactic(auto, using(mm_pages::proofs::Passed::turns_same))]
+#[tactic(auto, using(mm_store::proofs::Passed::turns_same))]
 pub fn unmap<G: Pages>(t: &mut Tables, g: &mut G, pid: Pid, addr: u32) -> Answer
     requires begins { BeginsRelease G.Pages pid t.old g.old }
     ensures done { AnswersCall G.Pages (unmap t.old pid.0 addr) t.old g.old result t.new g.new }

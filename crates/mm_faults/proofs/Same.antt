@@ -3,9 +3,9 @@ use Rattle.std.proofs.Common.{◌≡◌, Bool, true, false, List, ◌∷◌, Opt
 use Rattle.std.specs.Prelude.{not, ◌&&◌, if◌then◌else◌}
 use Rattle.mm_types.specs.{Place, Move}
 use Rattle.mm_types.specs.declared.moves.Move.TheVariants as move
-use Rattle.mm_life.specs.{FrameLife, unstarted, is_access, is_unbind, is_short, after_move}
-use Rattle.mm_classes.specs.{class_of, is_trim, makes_way, makes_room, next_of, MarksOf, marks_after, no_marks}
-use Rattle.mm_classes.specs.declared.classes.Class.TheVariants as class
+use Rattle.mm_move_rules.specs.{FrameLife, unstarted, is_access, is_unbind, is_short, after_move}
+use Rattle.mm_move_classes.specs.{class_of, is_trim, makes_way, makes_room, next_of, MarksOf, marks_after, no_marks}
+use Rattle.mm_move_classes.specs.declared.classes.Class.TheVariants as class
 use Rattle.mm_faults.specs.{Tally, no_tally, with_class, tallied, tally_from, fault_tally, fault_rows, said_of}
 
 -- no end of a place is a fault

@@ -9,11 +9,11 @@ use Rattle.std.proofs.lemmas.List.Sums.{sum_by-cons}
 use Rattle.std.proofs.lemmas.Option.{same_Some, none-some}
 use Rattle.mm_types.specs.{Key, Place, Record, Move}
 use Rattle.mm_types.specs.declared.moves.Move.TheVariants as move
-use Rattle.mm_life.specs.{after_move, record_at, has_request, is_again, is_read, fits_place, is_access, is_below_max, is_short, is_unbind, is_writer}
-use Rattle.mm_life.specs.{is_zeroer, IsLegal, touches, FrameLife, set_of, unstarted, Replays}
-use Rattle.mm_classes.specs.{class_of, class_of_got, classes, classes_from, is_busy, is_trim, makes_room, makes_way, next_of, reads_into, MarksOf}
-use Rattle.mm_classes.specs.{marks_after, no_marks, Class}
-use Rattle.mm_classes.specs.declared.classes.Class.TheVariants as class
+use Rattle.mm_move_rules.specs.{after_move, record_at, has_request, is_again, is_read, fits_place, is_access, is_below_max, is_short, is_unbind, is_writer}
+use Rattle.mm_move_rules.specs.{is_zeroer, IsLegal, touches, FrameLife, set_of, unstarted, Replays}
+use Rattle.mm_move_classes.specs.{class_of, class_of_got, classes, classes_from, is_busy, is_trim, makes_room, makes_way, next_of, reads_into, MarksOf}
+use Rattle.mm_move_classes.specs.{marks_after, no_marks, Class}
+use Rattle.mm_move_classes.specs.declared.classes.Class.TheVariants as class
 use Rattle.mm_faults.specs.{column_of, end_of, is_first_use, is_hard, is_on_paging_file, is_soft, is_zero_fill, page_of, place_of, process_of}
 use Rattle.mm_faults.specs.{column_count, one_at, sum_in, SumsToClasses, Table, Tally, column_in, counted, no_tally, none_counted, one_in_column}
 use Rattle.mm_faults.specs.{place_cmp, plus_one, tallied, fault_tally, tally_from, with_class, with_end, with_fault}

@@ -6,9 +6,9 @@ use Rattle.mm_types.specs.declared.frames.Backing.TheVariants as backing
 use Rattle.mm_types.specs.declared.moves.LineKind.TheVariants as kind
 use Rattle.mm_types.specs.declared.moves.Move.TheVariants as move
 use Rattle.mm_types.specs.declared.numbers.Key.TheVariants.{Private, Shared}
-use Rattle.mm_life.specs.{record_at, FrameLife}
-use Rattle.mm_classes.specs.{is_class, Class}
-use Rattle.mm_classes.specs.declared.classes.Class.TheVariants as class
+use Rattle.mm_move_rules.specs.{record_at, FrameLife}
+use Rattle.mm_move_classes.specs.{is_class, Class}
+use Rattle.mm_move_classes.specs.declared.classes.Class.TheVariants as class
 
 -- the column in which a class is counted: hard; soft, by where the page was found: standby,
 -- modified, transition, active; demand-zero; copy; collided

@@ -2,8 +2,8 @@
 -- Profile, "What a log shows".
 use Rattle.std.specs.Prelude.{Bool, true, false, List, []}
 use Rattle.mm_types.specs.{Text, Move}
-use Rattle.mm_life.specs.{FrameLife}
-use Rattle.mm_classes.specs.{marks_of}
+use Rattle.mm_move_rules.specs.{FrameLife}
+use Rattle.mm_move_classes.specs.{marks_of}
 use Rattle.mm_faults.specs.Tallies.{Tally, tally_from}
 use Rattle.mm_faults.specs.Rows.{tally_text}
 use Rattle.mm_faults.specs.declared.counters.Counters.{Counters}

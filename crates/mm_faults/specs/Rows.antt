@@ -3,7 +3,7 @@
 use Rattle.std.specs.Prelude.{ℕ, ◌+◌, ◌*◌, ◌/◌, Bool, true, false, ◌==◌, if◌then◌else◌, List, [], ◌∷◌, ◌++◌}
 use Rattle.std.specs.Prelude.{flat_map, slice_index, codes}
 use Rattle.mm_types.specs.{Text, decimal, Move}
-use Rattle.mm_life.specs.{numbered}
+use Rattle.mm_move_rules.specs.{numbered}
 use Rattle.mm_text.specs.{left_in, right_in, numbers_in}
 use Rattle.mm_faults.specs.Faults.{FaultPlace}
 use Rattle.mm_faults.specs.Tallies.{Table, Tally, fault_tally}

@@ -2,7 +2,7 @@
 -- Profile, "What a log shows".
 use Rattle.std.specs.Prelude.{◌≡◌, ℕ, ◌+◌, ◌==◌, if◌then◌else◌, List, [], ◌∷◌, count_by, Option, Some, None}
 use Rattle.std.specs.Prelude.{slice_index}
-use Rattle.mm_classes.specs.{Class}
+use Rattle.mm_move_classes.specs.{Class}
 use Rattle.mm_faults.specs.Faults.{is_first_use, is_hard, is_soft, is_zero_fill}
 use Rattle.mm_faults.specs.Tallies.{Table, Tally, column_in}
 

@@ -5,8 +5,8 @@ use Rattle.std.specs.Prelude.{None, slice_index, slice_set}
 use Rattle.std.specs.declared.cmp.Ordering.{Ordering}
 use Rattle.std.specs.Ordering.{nat_cmp, bool_cmp, match_ordering, ordering_then}
 use Rattle.mm_types.specs.{Move, Key}
-use Rattle.mm_life.specs.{after_move, FrameLife, unstarted}
-use Rattle.mm_classes.specs.{class_of, next_of, MarksOf, marks_after, no_marks, Class}
+use Rattle.mm_move_rules.specs.{after_move, FrameLife, unstarted}
+use Rattle.mm_move_classes.specs.{class_of, next_of, MarksOf, marks_after, no_marks, Class}
 use Rattle.mm_faults.specs.Faults.{column_of, process_of, page_of, FaultPlace, place_of, is_zero_fill}
 use Rattle.mm_faults.specs.Faults.{is_hard, is_first_use, is_soft, end_of, is_on_paging_file}
 

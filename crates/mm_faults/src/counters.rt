@@ -9,7 +9,7 @@ use crate::kinds::{
     FaultPlace, column_in, end_of, is_first_use, is_hard, is_on_paging_file, is_soft, is_zero_fill,
     page_of, place_of, process_of,
 };
-use mm_classes::Class;
+use mm_move_classes::Class;
 use mm_replay::Life;
 use mm_types::{Key, Move, NoMemory};
 use std::alloc::Global;

@@ -1,7 +1,7 @@
 ghost use Rattle.std.specs.Prelude.{◌≡◌, Bool, List, Option, None};
 ghost use Rattle.mm_types.specs.{Move};
-ghost use Rattle.mm_life.specs.{unstarted};
-ghost use Rattle.mm_classes.specs.{class_of, marks_of};
+ghost use Rattle.mm_move_rules.specs.{unstarted};
+ghost use Rattle.mm_move_classes.specs.{class_of, marks_of};
 ghost use Rattle.mm_replay.specs.Standing.{life as life_of};
 ghost use Rattle.mm_faults.specs.Rows.{fault_rows};
 ghost use Rattle.mm_faults.specs.Rest.{fault_rest};
@@ -9,10 +9,10 @@ ghost use Rattle.mm_sentences.specs.{why_text};
 
 use crate::counters::Counters;
 use crate::rows::put_tally;
-use mm_classes::{Class, Marks, class_of};
+use mm_move_classes::{Class, Marks, class_of};
 use mm_replay::Life;
 use mm_sentences::put_why;
-use mm_tell::Teller;
+use mm_log_walk::Teller;
 use mm_types::{Move, NoMemory};
 use std::alloc::Global;
 

@@ -1,12 +1,12 @@
 ghost use Rattle.std.specs.Prelude.{◌≡◌, ◌<◌, IfSome};
-ghost use Rattle.mm_classes.specs.{is_class};
+ghost use Rattle.mm_move_classes.specs.{is_class};
 ghost use Rattle.mm_replay.specs.Standing.{life as life_of};
 ghost use Rattle.mm_faults.specs.Faults.{column_of, process_of, page_of, place_of, is_zero_fill};
 ghost use Rattle.mm_faults.specs.Faults.{is_hard, is_first_use, is_soft, is_paged, end_of};
 ghost use Rattle.mm_faults.specs.Faults.{is_on_paging_file};
 ghost use Rattle.mm_faults.specs.Tallies.{column_in};
 
-use mm_classes::{Class, code};
+use mm_move_classes::{Class, code};
 use mm_replay::Life;
 use mm_types::{Backing, Key, LineKind, Move};
 

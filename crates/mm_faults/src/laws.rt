@@ -1,7 +1,7 @@
 ghost use Rattle.std.specs.Prelude.{List};
 ghost use Rattle.mm_types.specs.{Move};
-ghost use Rattle.mm_life.specs.{FrameLife, unstarted, Replays};
-ghost use Rattle.mm_classes.specs.{classes};
+ghost use Rattle.mm_move_rules.specs.{FrameLife, unstarted, Replays};
+ghost use Rattle.mm_move_classes.specs.{classes};
 ghost use Rattle.mm_faults.specs.{SumsToClasses, fault_tally};
 
 /// The sum of each column, over pages and over processes, is the number of moves whose class is

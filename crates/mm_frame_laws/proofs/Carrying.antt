@@ -4,15 +4,15 @@ use Rattle.std.specs.Prelude.{◌||◌, is_some, if◌then◌else◌, ◌==◌, 
 use Rattle.std.proofs.lemmas.Bool.{and_parts, eqb-true, leb-true, or_right}
 use Rattle.mm_types.proofs.{same_or_not, get_set_same, get_set_other, append_nil}
 use Rattle.mm_types.specs.{Frame, Key, Record, Backing, Held, LineKind, MachineOf}
-use Rattle.mm_life.specs.{FrameTable, blank, record_at, is_read, is_write, is_again, is_on, slot_of, without_slot, write_done, after_wrote, FrameLife}
-use Rattle.mm_life.specs.{IsLegal, is_io, is_access, is_call, after_move, home_at, slot_at, FrameBytes, BlockBytes, frame_page, bytes_at, held_in}
-use Rattle.mm_life.specs.{located, contents_of, BytesLocated, is_legal_kind, zero_page, has_request, unstarted}
-use Rattle.mm_laws.specs.{is_backed, block_of, block_in, block_held, ReachedByMoves}
-use Rattle.mm_laws.proofs.{same_key-true, write_has, some_owner, facts_of, three_parts}
+use Rattle.mm_move_rules.specs.{FrameTable, blank, record_at, is_read, is_write, is_again, is_on, slot_of, without_slot, write_done, after_wrote, FrameLife}
+use Rattle.mm_move_rules.specs.{IsLegal, is_io, is_access, is_call, after_move, home_at, slot_at, FrameBytes, BlockBytes, frame_page, bytes_at, held_in}
+use Rattle.mm_move_rules.specs.{located, contents_of, BytesLocated, is_legal_kind, zero_page, has_request, unstarted}
+use Rattle.mm_move_laws.specs.{is_backed, block_of, block_in, block_held, ReachedByMoves}
+use Rattle.mm_move_laws.proofs.{same_key-true, write_has, some_owner, facts_of, three_parts}
 use Rattle.mm_frame_laws.specs.{Carries, slots_written, blocks_written, slots_grown}
-use Rattle.mm_laws.proofs.Facts.{Facts}
+use Rattle.mm_move_laws.proofs.Facts.{Facts}
 use Rattle.mm_frame_laws.proofs.Moving.{others_set, here_set, records_ended, zeroed_ended, asked_low, calm_in}
-use Rattle.mm_life.proofs.{write_not_read, read_has, located_at_start}
+use Rattle.mm_move_rules.proofs.{write_not_read, read_has, located_at_start}
 use Rattle.std.proofs.lemmas.List.{length-replicate}
 pub use Rattle.mm_frame_laws.proofs.Moving.{carries_map, carries_unmap, carries_soil, carries_write, carries_lost}
 pub use Rattle.mm_frame_laws.proofs.KeyMoves.{carries_clear, carries_got, carries_written, carries_give, carries_read, carries_steal, carries_bad, carries_add_zero, carries_add_block, carries_drop}

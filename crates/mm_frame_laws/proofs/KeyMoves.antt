@@ -3,17 +3,17 @@ use Rattle.std.proofs.Common.{◌≡◌, ◌≢◌, ℕ, ◌<◌, Bool, true, fa
 use Rattle.std.specs.Prelude.{◌||◌, not, is_some, if◌then◌else◌, slice_get, slice_set, ◌&&◌}
 use Rattle.std.proofs.lemmas.Bool.{and_parts, ltb-true, or_left}
 use Rattle.mm_types.specs.{MachineOf, Block, Frame, Key, Record, Backing, Held, Request}
-use Rattle.mm_life.specs.{FrameTable, blank, record_at, is_read, is_on, is_empty, rest, has_request, given, being_read, disowned, taken_for_read}
-use Rattle.mm_life.specs.{to_free, off_lists, with_record, FrameLife, changed, same_key, is_dead, IsLegal, is_stored, is_access, is_io, after_move}
-use Rattle.mm_life.specs.{home_at, backing_of, homed, dropped_at, FrameBytes, BlockBytes, zero_page, frame_page, bytes_at, held_in, located}
-use Rattle.mm_life.specs.{contents_of, BytesLocated, is_first, read_done, is_live, is_zeroer, is_touch}
-use Rattle.mm_laws.proofs.{zero_is, stored_backed, changes_give, fresh_read, changes_read, changes_steal, some_owner, read_has, facts_of, four_parts}
-use Rattle.mm_laws.proofs.{three_parts, key_or_not}
-use Rattle.mm_laws.specs.{Sight, sight, ReachedByMoves}
+use Rattle.mm_move_rules.specs.{FrameTable, blank, record_at, is_read, is_on, is_empty, rest, has_request, given, being_read, disowned, taken_for_read}
+use Rattle.mm_move_rules.specs.{to_free, off_lists, with_record, FrameLife, changed, same_key, is_dead, IsLegal, is_stored, is_access, is_io, after_move}
+use Rattle.mm_move_rules.specs.{home_at, backing_of, homed, dropped_at, FrameBytes, BlockBytes, zero_page, frame_page, bytes_at, held_in, located}
+use Rattle.mm_move_rules.specs.{contents_of, BytesLocated, is_first, read_done, is_live, is_zeroer, is_touch}
+use Rattle.mm_move_laws.proofs.{zero_is, stored_backed, changes_give, fresh_read, changes_read, changes_steal, some_owner, read_has, facts_of, four_parts}
+use Rattle.mm_move_laws.proofs.{three_parts, key_or_not}
+use Rattle.mm_move_laws.specs.{Sight, sight, ReachedByMoves}
 use Rattle.mm_frame_laws.specs.{Carries, IsSoiled, is_calm}
-use Rattle.mm_laws.proofs.Facts.{Facts}
+use Rattle.mm_move_laws.proofs.Facts.{Facts}
 use Rattle.mm_frame_laws.proofs.Moving.{calm_in, read_in, one_moves, clean_by, same_live, same_contents, alone_set, others_set, here_set, carries_kept, owned_low, asked_low, first_on, rest_on, push_on, home_bytes, elsewhere, records_ended, zeroed_ended}
-use Rattle.mm_life.proofs.{home_lives, stored_lives, calm}
+use Rattle.mm_move_rules.proofs.{home_lives, stored_lives, calm}
 use Rattle.mm_types.proofs.{is_there, same_or_not}
 use Rattle.mm_ram.specs.{with_page}
 use Rattle.mm_types.specs.declared.frames.Backing.TheVariants as backing

@@ -2,17 +2,17 @@
 use Rattle.std.proofs.Common.{◌≡◌, ◌⊎◌, ℕ, Bool, true, false, List, [], ◌∷◌, ◌++◌, refl, sym, inl, inr, ◌≢◌, ap, ◌∙◌, ◌<◌, length, get_or-set_same, get_or-set_other, ◌≤◌, Option, Some, None, arith}
 use Rattle.std.specs.Prelude.{◌==◌, ◌||◌, is_some, if◌then◌else◌, not, slice_set, slice_index_or, option_map, unwrap_or}
 use Rattle.std.proofs.lemmas.Bool.{eqb-true, or_right, or_left, and_parts, not-true, lt-ltb, ltb-true}
-use Rattle.mm_life.specs.{is_on, is_first, rest, record_at, is_read, FrameLife, changed, same_key, is_dead, home_at, FrameBytes, BlockBytes}
-use Rattle.mm_life.specs.{frame_page, bytes_at, held_in, located, contents_of, BytesLocated, FrameTable, blank, is_idle, with_record, settled}
-use Rattle.mm_life.specs.{settled_by, to_free, is_write, has_request, shared, unshared, soiled, being_written, write_lost, without_slot, IsLegal}
-use Rattle.mm_life.specs.{fits_place, is_access, is_call, is_io, may_unmap, after_move, after_unmap_at}
+use Rattle.mm_move_rules.specs.{is_on, is_first, rest, record_at, is_read, FrameLife, changed, same_key, is_dead, home_at, FrameBytes, BlockBytes}
+use Rattle.mm_move_rules.specs.{frame_page, bytes_at, held_in, located, contents_of, BytesLocated, FrameTable, blank, is_idle, with_record, settled}
+use Rattle.mm_move_rules.specs.{settled_by, to_free, is_write, has_request, shared, unshared, soiled, being_written, write_lost, without_slot, IsLegal}
+use Rattle.mm_move_rules.specs.{fits_place, is_access, is_call, is_io, may_unmap, after_move, after_unmap_at}
 use Rattle.mm_types.proofs.{same_or_not, not_true}
 use Rattle.mm_types.specs.{Frame, Key, Record, Backing, Held, MachineOf, Place, Request, Stored}
-use Rattle.mm_laws.proofs.{key_or_not, write_has, kept_inside, owner_passes, facts_of, five_parts, four_parts, three_parts}
+use Rattle.mm_move_laws.proofs.{key_or_not, write_has, kept_inside, owner_passes, facts_of, five_parts, four_parts, three_parts}
 use Rattle.mm_frame_laws.specs.{Carries}
-use Rattle.mm_life.proofs.{records_settled, write_not_read, calm}
-use Rattle.mm_laws.proofs.Facts.{Facts}
-use Rattle.mm_laws.specs.{ReachedByMoves}
+use Rattle.mm_move_rules.proofs.{records_settled, write_not_read, calm}
+use Rattle.mm_move_laws.proofs.Facts.{Facts}
+use Rattle.mm_move_laws.specs.{ReachedByMoves}
 use Rattle.mm_types.specs.declared.frames.Backing.TheVariants as backing
 use Rattle.mm_types.specs.declared.frames.Held.TheVariants as held
 use Rattle.mm_types.specs.declared.frames.Request.TheVariants as request

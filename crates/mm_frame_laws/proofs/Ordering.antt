@@ -5,17 +5,17 @@ use Rattle.std.specs.Cmp.{unsigned_Decides}
 use Rattle.std.proofs.lemmas.Bool.{cases_lt, lt-ltb, le-ltb, ltb-false, ltb-true, eqb-true, or_cases, and_parts, and_from}
 use Rattle.mm_types.proofs.{same_or_not, differ, not_true, get_within, one_only_if}
 use Rattle.mm_types.specs.{Frame, Place, Pid}
-use Rattle.mm_life.specs.{FrameLife, same_place, is_unpinned, may_go, Ages, page_first, turn_of, process_first, IsOldest, IsVictim, set_of}
-use Rattle.mm_life.specs.{is_above_min, ResidentSet}
-use Rattle.mm_laws.specs.{one_if, tally, is_of, residents}
-use Rattle.mm_laws.specs.Sound.{Sound}
-use Rattle.mm_laws.proofs.{same_place-true, same_place-self, resident_there}
+use Rattle.mm_move_rules.specs.{FrameLife, same_place, is_unpinned, may_go, Ages, page_first, turn_of, process_first, IsOldest, IsVictim, set_of}
+use Rattle.mm_move_rules.specs.{is_above_min, ResidentSet}
+use Rattle.mm_move_laws.specs.{one_if, tally, is_of, residents}
+use Rattle.mm_move_laws.specs.Sound.{Sound}
+use Rattle.mm_move_laws.proofs.{same_place-true, same_place-self, resident_there}
 use Rattle.mm_frame_laws.specs.{place_first, earlier, first_that, first_to_go, may_go_in, first_to_go_in, Sooner, IsNextPage, PassedTo, NoPageFollows}
 use Rattle.mm_frame_laws.specs.{IsBest, BestBelow, takes_over, FollowsPage, SetShows, place_of_page, IsInSet, page_of_place}
 use Rattle.mm_frame_laws.specs.{NoPageFollows as NoneNext}
 use Rattle.std.specs.Ordering.{nat_cmp}
 use Rattle.std.specs.FinMap.{FinMap}
-use Rattle.mm_wset.specs.{IsOldestInSet, NoneFollowsInSet, GoesAfter, GoesBefore}
+use Rattle.mm_working_sets.specs.{IsOldestInSet, NoneFollowsInSet, GoesAfter, GoesBefore}
 use Rattle.std.specs.FinMap as finite
 
 -- ---- one number before another, or the same and then a second one

@@ -9,17 +9,17 @@ pub use Rattle.std.proofs.lemmas.List.Folds.{list_any-append as any_append}
 use Rattle.mm_types.proofs.{same_or_not, untried_not, not_true}
 pub use Rattle.mm_types.proofs.Booleans.{or_false as or_none}
 use Rattle.mm_types.specs.{IsMachine, Frame, Key, Place, Stored, Move, MachineOf}
-use Rattle.mm_life.specs.{record_at, is_on, without, FrameLife, IsLegal, is_short, owner_is, can_be_written, may_go, is_access, after_move, Replays}
-use Rattle.mm_life.specs.{Ages, IsVictim}
-use Rattle.mm_laws.specs.{one_if, times, at_end_if, valid_places}
-use Rattle.mm_laws.specs.Sound.{Sound}
+use Rattle.mm_move_rules.specs.{record_at, is_on, without, FrameLife, IsLegal, is_short, owner_is, can_be_written, may_go, is_access, after_move, Replays}
+use Rattle.mm_move_rules.specs.{Ages, IsVictim}
+use Rattle.mm_move_laws.specs.{one_if, times, at_end_if, valid_places}
+use Rattle.mm_move_laws.specs.Sound.{Sound}
 use Rattle.mm_frame_laws.specs.{NoneMayGo, Writable, IsWithinDepth, is_last, SameWriters, Unmapped, after_failed, list_in_search, is_lost_of, lost_in}
 use Rattle.mm_frame_laws.specs.{failed_write, AllWritesFailed, MissedBut, with_modified, Walking, Emptying, put_last, first_passing, is_untried}
 use Rattle.mm_frame_laws.specs.{next_try, written_by, open_write, IsUnmap, AreSteps, InOrder, InWalk}
 use Rattle.mm_frame_laws.proofs.Counting.{room}
-use Rattle.mm_laws.proofs.{tally-append, without_none, without_append, without_self, modified_frame, keeps, kept_along, times_on, has_shares}
+use Rattle.mm_move_laws.proofs.{tally-append, without_none, without_append, without_self, modified_frame, keeps, kept_along, times_on, has_shares}
 use Rattle.mm_frame_laws.proofs.Writing.{failed, unmapped, unmap_legal, lost_legal}
-use Rattle.mm_life.proofs.{replays_then}
+use Rattle.mm_move_rules.proofs.{replays_then}
 use Rattle.mm_types.specs.declared.moves.Move.TheVariants as move
 
 -- ---- the list in the walk

@@ -5,15 +5,15 @@ use Rattle.std.proofs.lemmas.Bool.{lt-ltb, and_parts, and_from, or_left, or_righ
 use Rattle.std.specs.Cmp.{unsigned_Decides}
 use Rattle.mm_types.proofs.{same_or_not, differ, and_false}
 use Rattle.mm_types.specs.{Frame, Place, Record, Slot, Block, Key, Backing, Request, Stored}
-use Rattle.mm_life.specs.{record_at, has_request, is_idle, unshared, FrameLife, set_of, after_move, after_unmap_at, ResidentSet, FrameTable, blank}
-use Rattle.mm_life.specs.{is_on, is_empty, slot_of, without, without_slot, with_record, being_written, write_done, write_lost, settled, settled_by}
-use Rattle.mm_life.specs.{after_write, after_wrote, after_lost, is_write, is_shared, is_live, key_of_place, IsLegal, owner_is, is_access, is_io}
-use Rattle.mm_life.specs.{is_call, is_writer, has_depth, is_lowest, is_block, may_write_block, is_short, may_unmap, unbinds, trims, touches}
-use Rattle.mm_life.specs.{is_above_min, is_at_max, freed, can_be_written}
-use Rattle.mm_laws.proofs.{set_here, set_else, has_shares, place_or_not, same_place-self, sets_fewer, resident_there, unmap_settles, owner_passes}
-use Rattle.mm_laws.proofs.{without_none, begun_ended, set_back, set_back_or, lowest_free, lowest_there, ModifiedFrame, modified_frame, four_parts}
-use Rattle.mm_laws.specs.Sound.{Sound}
-use Rattle.mm_laws.specs.{valid_places, ListsAre, at_end_if, Settles, is_backing_for, block_of}
+use Rattle.mm_move_rules.specs.{record_at, has_request, is_idle, unshared, FrameLife, set_of, after_move, after_unmap_at, ResidentSet, FrameTable, blank}
+use Rattle.mm_move_rules.specs.{is_on, is_empty, slot_of, without, without_slot, with_record, being_written, write_done, write_lost, settled, settled_by}
+use Rattle.mm_move_rules.specs.{after_write, after_wrote, after_lost, is_write, is_shared, is_live, key_of_place, IsLegal, owner_is, is_access, is_io}
+use Rattle.mm_move_rules.specs.{is_call, is_writer, has_depth, is_lowest, is_block, may_write_block, is_short, may_unmap, unbinds, trims, touches}
+use Rattle.mm_move_rules.specs.{is_above_min, is_at_max, freed, can_be_written}
+use Rattle.mm_move_laws.proofs.{set_here, set_else, has_shares, place_or_not, same_place-self, sets_fewer, resident_there, unmap_settles, owner_passes}
+use Rattle.mm_move_laws.proofs.{without_none, begun_ended, set_back, set_back_or, lowest_free, lowest_there, ModifiedFrame, modified_frame, four_parts}
+use Rattle.mm_move_laws.specs.Sound.{Sound}
+use Rattle.mm_move_laws.specs.{valid_places, ListsAre, at_end_if, Settles, is_backing_for, block_of}
 use Rattle.mm_frame_laws.specs.{is_last, Unmapped, backing_to, after_written, after_failed, put_last}
 use Rattle.std.specs.List.{list_any}
 use Rattle.mm_types.specs.declared.moves.Move.TheVariants as move

@@ -5,8 +5,8 @@ use Rattle.mm_types.specs.{Key, Backing, Record, Request, LineKind}
 use Rattle.mm_types.specs.declared.frames.Backing.TheVariants as backing
 use Rattle.mm_types.specs.declared.frames.Request.TheVariants as request
 use Rattle.mm_types.specs.declared.moves.LineKind.TheVariants as kind
-use Rattle.mm_life.specs.{FrameLife, changed, same_key, FrameBytes, BlockBytes, contents_of, BytesLocated}
-use Rattle.mm_laws.specs.{ReachedByMoves}
+use Rattle.mm_move_rules.specs.{FrameLife, changed, same_key, FrameBytes, BlockBytes, contents_of, BytesLocated}
+use Rattle.mm_move_laws.specs.{ReachedByMoves}
 
 -- the bytes are located in this state, and the keys have these contents
 pub record Carries (l : FrameLife) (ram : FrameBytes) (slots blocks : BlockBytes)

@@ -2,7 +2,7 @@
 -- processes. Profile, "Which frame moves, and when".
 use Rattle.std.specs.Prelude.{◌≡◌, ◌⊎◌, ◌<◌, ℕ, Bool, true, false, is_some, ◌||◌, ◌&&◌, not, ◌==◌, if◌then◌else◌, List, [], ◌∷◌, Option, Some, None}
 use Rattle.mm_types.specs.{Frame, Place}
-use Rattle.mm_life.specs.{FrameLife, set_of, is_above_min, Ages, page_first, process_first, may_go, IsOldest}
+use Rattle.mm_move_rules.specs.{FrameLife, set_of, is_above_min, Ages, page_first, process_first, may_go, IsOldest}
 
 -- of two pages of any processes
 abbrev pub place_first : FrameLife → Ages → Place → Place → Bool

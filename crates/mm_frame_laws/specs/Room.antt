@@ -2,7 +2,7 @@
 -- is not pinned. Profile, "Which frame moves, and when".
 use Rattle.std.specs.Prelude.{◌≡◌, ◌≤◌, ℕ, true, false, length, Option}
 use Rattle.mm_types.specs.{Frame, Place}
-use Rattle.mm_life.specs.{is_on, FrameLife, can_be_written, may_go}
+use Rattle.mm_move_rules.specs.{is_on, FrameLife, can_be_written, may_go}
 
 -- at most depth requests are in flight
 abbrev pub IsWithinDepth : FrameLife → Type 0

@@ -4,7 +4,7 @@ use Rattle.std.specs.Prelude.{◌≡◌, ◌≢◌, ℕ, Bool, true, false, not,
 use Rattle.std.specs.List.{list_any}
 use Rattle.mm_types.specs.{IsMachine, Frame, Place, Stored, Move}
 use Rattle.mm_types.specs.declared.moves.Move.TheVariants as move
-use Rattle.mm_life.specs.{is_on, FrameLife, is_access, is_short, after_move, Replays, can_be_written, Ages, IsVictim}
+use Rattle.mm_move_rules.specs.{is_on, FrameLife, is_access, is_short, after_move, Replays, can_be_written, Ages, IsVictim}
 use Rattle.mm_frame_laws.specs.Room.{IsWithinDepth}
 use Rattle.mm_frame_laws.specs.Steps.{list_in_search}
 

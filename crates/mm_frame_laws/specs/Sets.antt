@@ -5,7 +5,7 @@ use Rattle.std.specs.Ordering.{nat_cmp}
 use Rattle.std.specs.FinMap as finite
 use Rattle.std.specs.FinMap.{FinMap}
 use Rattle.mm_types.specs.{Pid, Place}
-use Rattle.mm_life.specs.{FrameLife, Ages}
+use Rattle.mm_move_rules.specs.{FrameLife, Ages}
 
 -- the working set has the valid pages of the process, each with its age, and no others
 pub record SetShows (l : FrameLife) (ages : Ages) (pid : Pid) (set : FinMap nat_cmp ℕ) :

@@ -5,8 +5,8 @@ use Rattle.mm_types.specs.{Frame, Place, Record, Backing, Stored}
 use Rattle.mm_types.specs.declared.frames.Backing.TheVariants as backing
 use Rattle.mm_types.specs.declared.moves.Stored.TheVariants as stored
 use Rattle.mm_types.specs.declared.moves.Move.TheVariants as move
-use Rattle.mm_life.specs.{record_at, without, has_request, unshared, FrameLife, after_move}
-use Rattle.mm_laws.specs.{valid_places, at_end_if, ListsAre}
+use Rattle.mm_move_rules.specs.{record_at, without, has_request, unshared, FrameLife, after_move}
+use Rattle.mm_move_laws.specs.{valid_places, at_end_if, ListsAre}
 
 -- a frame that one place alone shows, and that has no request: without that place it is on a list
 abbrev pub is_last : Record → Bool

@@ -6,7 +6,7 @@ use Rattle.mm_types.specs.declared.numbers.Key.TheVariants.{Shared}
 use Rattle.mm_types.specs.declared.moves.LineKind.TheVariants as kind
 use Rattle.mm_types.specs.declared.moves.Stored.TheVariants as stored
 use Rattle.mm_types.specs.declared.moves.Move.TheVariants as move
-use Rattle.mm_life.specs.{pid, frame, slot, private, place}
+use Rattle.mm_move_rules.specs.{pid, frame, slot, private, place}
 use Rattle.mm_frame_laws.specs.Searches.{failed_write}
 
 -- ---- eight frames that hold eight valid pages

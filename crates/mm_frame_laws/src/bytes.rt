@@ -2,8 +2,8 @@ ghost use Rattle.std.specs.Prelude.{◌≡◌, ◌≤◌, ◌++◌, ℕ, List, S
 ghost use Rattle.mm_types.specs.{MachineOf, Block, Frame, Key, Place, LineKind, Stored};
 ghost use Rattle.mm_types.specs.declared.moves.LineKind.TheVariants as kind;
 ghost use Rattle.mm_types.specs.declared.moves.Move.TheVariants as move;
-ghost use Rattle.mm_life.specs.{record_at, FrameLife, unstarted, IsLegal, after_move, home_at, FrameBytes, BlockBytes, zero_page, frame_page};
-ghost use Rattle.mm_life.specs.{bytes_at};
+ghost use Rattle.mm_move_rules.specs.{record_at, FrameLife, unstarted, IsLegal, after_move, home_at, FrameBytes, BlockBytes, zero_page, frame_page};
+ghost use Rattle.mm_move_rules.specs.{bytes_at};
 ghost use Rattle.mm_ram.specs.{with_page};
 ghost use Rattle.mm_frame_laws.specs.{HoldsBytes, Carries, KeepsBytes, SetsBytes, IsSoiled, slots_grown, slots_written, blocks_written};
 

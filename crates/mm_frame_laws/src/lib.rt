@@ -3,7 +3,7 @@
 //! stand, and what each move leaves of them.
 //!
 //! What the laws say stands in `specs/`. Each function here has no body: its clauses are laws that
-//! are proved over the definitions of `mm_life`, for each state that a log of moves reaches.
+//! are proved over the definitions of `mm_move_rules`, for each state that a log of moves reaches.
 #![tactic(auto)]
 
 mod bytes;

@@ -1,10 +1,10 @@
 ghost use Rattle.std.specs.Prelude.{◌≡◌, ◌+◌, ℕ, List, Option, Some, true, false, ◌++◌, ◌∷◌, []};
 ghost use Rattle.mm_types.specs.{IsMachine, Frame, Place, Stored, Move};
 ghost use Rattle.mm_types.specs.declared.moves.Move.TheVariants as move;
-ghost use Rattle.mm_life.specs.{is_on, FrameLife, IsLegal, is_access, is_short, after_move, Replays, can_be_written, Ages, IsVictim};
-ghost use Rattle.mm_laws.specs.Sound.{Sound};
+ghost use Rattle.mm_move_rules.specs.{is_on, FrameLife, IsLegal, is_access, is_short, after_move, Replays, can_be_written, Ages, IsVictim};
+ghost use Rattle.mm_move_laws.specs.Sound.{Sound};
 ghost use Rattle.mm_frame_laws.specs.{NoneMayGo, IsWithinDepth, after_failed, failed_write, lost_in, Walking, Emptying, AreSteps, InOrder, InWalk};
-ghost use Rattle.mm_laws.specs.{valid_places};
+ghost use Rattle.mm_move_laws.specs.{valid_places};
 
 /// The modified list is walked from its front, each frame once: frames that cannot be written are
 /// passed over, one whose write failed goes to the end. After it each modified frame that can be

@@ -2,10 +2,10 @@ ghost use Rattle.std.specs.Prelude.{◌≡◌, ◌≢◌, ◌-◌, ℕ, Some, tr
 ghost use Rattle.std.specs.List.{list_any};
 ghost use Rattle.mm_types.specs.{Frame, Key, Place, Stored};
 ghost use Rattle.mm_types.specs.declared.moves.Move.TheVariants as move;
-ghost use Rattle.mm_life.specs.{record_at, has_request, is_on, without, being_written, FrameLife, set_of, ResidentSet, IsLegal, is_access, is_writer};
-ghost use Rattle.mm_life.specs.{has_depth, is_short, trims, touches, is_above_min, is_at_max, after_move, can_be_written};
-ghost use Rattle.mm_laws.specs.Sound.{Sound};
-ghost use Rattle.mm_laws.specs.{times, block_of, ListsAre};
+ghost use Rattle.mm_move_rules.specs.{record_at, has_request, is_on, without, being_written, FrameLife, set_of, ResidentSet, IsLegal, is_access, is_writer};
+ghost use Rattle.mm_move_rules.specs.{has_depth, is_short, trims, touches, is_above_min, is_at_max, after_move, can_be_written};
+ghost use Rattle.mm_move_laws.specs.Sound.{Sound};
+ghost use Rattle.mm_move_laws.specs.{times, block_of, ListsAre};
 ghost use Rattle.mm_frame_laws.specs.{Writable, Unmapped, backing_to, after_written, after_failed, put_last};
 
 /// What the unmap of a place leaves. A frame that the place alone showed, without a request, joins

@@ -2,10 +2,10 @@ ghost use Rattle.std.specs.Prelude.{◌≡◌, ◌≤◌, ◌<◌, ◌+◌, ℕ,
 ghost use Rattle.mm_types.specs.{Frame, Pid, Place};
 ghost use Rattle.std.specs.Ordering.{nat_cmp};
 ghost use Rattle.std.specs.FinMap.{FinMap};
-ghost use Rattle.mm_life.specs.{FrameLife, same_place, set_of, may_go, Ages, IsOldest, IsVictim};
-ghost use Rattle.mm_laws.specs.Sound.{Sound};
-ghost use Rattle.mm_laws.specs.{tally, residents};
-ghost use Rattle.mm_wset.specs.{IsOldestInSet, NoneFollowsInSet};
+ghost use Rattle.mm_move_rules.specs.{FrameLife, same_place, set_of, may_go, Ages, IsOldest, IsVictim};
+ghost use Rattle.mm_move_laws.specs.Sound.{Sound};
+ghost use Rattle.mm_move_laws.specs.{tally, residents};
+ghost use Rattle.mm_working_sets.specs.{IsOldestInSet, NoneFollowsInSet};
 ghost use Rattle.mm_frame_laws.specs.{SetShows, place_of_page, page_of_place, IsInSet, first_to_go, first_to_go_in, IsNextPage, PassedTo};
 ghost use Rattle.mm_frame_laws.specs.{NoPageFollows, IsBest, BestBelow, takes_over};
 
@@ -79,7 +79,7 @@ pub fn processes_are_gone_through()
         (1 ≤ q.pid.0) × (q.pid.0 ≤ length l.sets) }
 {}
 
-/// The order of a working set is that of its process's places: the page that `mm_wset` answers next
+/// The order of a working set is that of its process's places: the page that `mm_working_sets` answers next
 /// is the place that goes next, and where it answers none no place follows.
 pub fn sets_go_by_age()
     ensures next { (l : FrameLife) (ages : Ages) (pid : Pid) (set : FinMap nat_cmp ℕ) →

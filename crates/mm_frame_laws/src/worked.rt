@@ -1,6 +1,6 @@
 ghost use Rattle.std.specs.Prelude.{◌≡◌, option_map, Some, None, [], ◌∷◌, ◌++◌, true, false, length};
 ghost use Rattle.std.specs.List.{list_any};
-ghost use Rattle.mm_life.specs.{is_short, replay_log, can_be_written, frame, place};
+ghost use Rattle.mm_move_rules.specs.{is_short, replay_log, can_be_written, frame, place};
 ghost use Rattle.mm_frame_laws.specs.{first_to_go, eight_pages, eight_places, first_emptied, second_emptied, first_fails, one_too_many};
 
 /// Eight frames of eight hold valid pages: the first of equal age goes first, and the next where

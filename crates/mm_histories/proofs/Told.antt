@@ -1,10 +1,10 @@
 -- What was told of a history, and what is still to come.
 use Rattle.std.proofs.Common.{◌≡◌, Bool, List, ◌∷◌, ◌++◌, Option, Some, None, ap, ◌∙◌, append_assoc}
 use Rattle.mm_types.specs.{Text, Move}
-use Rattle.mm_life.specs.{FrameLife, unstarted, after_move}
-use Rattle.mm_classes.specs.{class_of, next_of, MarksOf, marks_after, no_marks, Class}
-use Rattle.mm_tell.specs.{pending, class_then, move_of, Pending}
-use Rattle.mm_tell.proofs.{class_known}
+use Rattle.mm_move_rules.specs.{FrameLife, unstarted, after_move}
+use Rattle.mm_move_classes.specs.{class_of, next_of, MarksOf, marks_after, no_marks, Class}
+use Rattle.mm_log_walk.specs.{pending, class_then, move_of, Pending}
+use Rattle.mm_log_walk.proofs.{class_known}
 use Rattle.mm_histories.specs.{head, history, move_row, history_row, rows_from, head_left, noted, waiting_row, Noted, Subject}
 
 -- the row of a move that waited is the row of the move

@@ -6,8 +6,8 @@ use Rattle.mm_types.specs.{Text, decimal, Held, Move, Frame, Key}
 use Rattle.mm_types.specs.declared.frames.Held.TheVariants as held
 use Rattle.mm_types.specs.declared.moves.LineKind.TheVariants as kind
 use Rattle.mm_types.specs.declared.moves.Move.TheVariants as move
-use Rattle.mm_life.specs.{after_move, FrameLife, same_key, unstarted, held_at, numbered}
-use Rattle.mm_classes.specs.{class_of, next_of, MarksOf, marks_after, no_marks, Class}
+use Rattle.mm_move_rules.specs.{after_move, FrameLife, same_key, unstarted, held_at, numbered}
+use Rattle.mm_move_classes.specs.{class_of, next_of, MarksOf, marks_after, no_marks, Class}
 use Rattle.mm_sentences.specs.{facts_of, sentence_text, frame_row, state_of, state_text, key_text, FrameState}
 use Rattle.mm_sentences.specs.declared.facts.Facts.{Facts}
 use Rattle.mm_text.specs.{left_in}

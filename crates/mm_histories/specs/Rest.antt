@@ -2,10 +2,10 @@
 -- Profile, "What a log shows".
 use Rattle.std.specs.Prelude.{Bool, if◌then◌else◌, List, [], ◌++◌, Option, Some, None}
 use Rattle.mm_types.specs.{Text, Move}
-use Rattle.mm_life.specs.{FrameLife}
-use Rattle.mm_classes.specs.{next_of, marks_of}
+use Rattle.mm_move_rules.specs.{FrameLife}
+use Rattle.mm_move_classes.specs.{next_of, marks_of}
 use Rattle.mm_sentences.specs.{facts_of}
-use Rattle.mm_tell.specs.{class_then, move_of, Classed}
+use Rattle.mm_log_walk.specs.{class_then, move_of, Classed}
 use Rattle.mm_histories.specs.Histories.{head, history_row, rows_from, state_before}
 use Rattle.mm_histories.specs.declared.histories.HistoryTeller.{HistoryTeller}
 use Rattle.mm_histories.specs.declared.rows.Noted.{Noted}

@@ -1,6 +1,6 @@
 ghost use Rattle.std.specs.Prelude.{◌≡◌, ◌++◌, ◌∷◌, [], Bool, List, OnOk, true, if◌then◌else◌};
 ghost use Rattle.mm_types.specs.{Move};
-ghost use Rattle.mm_life.specs.{unstarted};
+ghost use Rattle.mm_move_rules.specs.{unstarted};
 ghost use Rattle.mm_replay.specs.Standing.{life as life_of};
 ghost use Rattle.mm_histories.specs.Histories.{history, frame_history, key_history, end_text};
 ghost use Rattle.mm_histories.specs.Rest.{head_left, history_rest};
@@ -11,7 +11,7 @@ use crate::rows::{Noted, note, put_waiting};
 use crate::subjects::Subject;
 use mm_replay::Life;
 use mm_sentences::put_why;
-use mm_tell::{Classifier, Teller};
+use mm_log_walk::{Classifier, Teller};
 use mm_types::{Key, Move, NoMemory};
 use std::alloc::Global;
 

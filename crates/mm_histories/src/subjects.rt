@@ -1,5 +1,5 @@
 ghost use Rattle.std.specs.Prelude.{◌≡◌};
-ghost use Rattle.mm_life.specs.{same_key};
+ghost use Rattle.mm_move_rules.specs.{same_key};
 ghost use Rattle.mm_histories.specs.Histories.{is_frame, is_key, is_about};
 
 use mm_sentences::Facts;

@@ -6,11 +6,11 @@ use Rattle.std.proofs.Props.{props}
 use Rattle.mm_types.specs.{Area, Frame, Key, Place}
 use Rattle.mm_types.specs.declared.numbers.Key.TheVariants.{Private, Shared}
 use Rattle.mm_types.specs.declared.frames.Held.TheVariants as held
-use Rattle.mm_life.specs.{ResidentSet, record_at, FrameLife, key_of_place, is_shared, set_in, owner_is}
-use Rattle.mm_laws.specs.{ReachedByMoves}
-use Rattle.mm_laws.proofs.{reached_sound, slot_free, slot_has, slot_one, slot_there, places_counted, same_place-true}
-use Rattle.mm_words.specs.{Entry, Aside, key_entry, place_from, is_valid_entry}
-use Rattle.mm_words.specs.declared.layout.Entry.TheVariants as entry
+use Rattle.mm_move_rules.specs.{ResidentSet, record_at, FrameLife, key_of_place, is_shared, set_in, owner_is}
+use Rattle.mm_move_laws.specs.{ReachedByMoves}
+use Rattle.mm_move_laws.proofs.{reached_sound, slot_free, slot_has, slot_one, slot_there, places_counted, same_place-true}
+use Rattle.mm_page_tables.specs.{Entry, Aside, key_entry, place_from, is_valid_entry}
+use Rattle.mm_page_tables.specs.declared.layout.Entry.TheVariants as entry
 use Rattle.mm_parts.specs.{JoinedParts, owners, owned_by, held_by, life_in, requests, is_aside_entry, EntriesAgree, SlotsAgree, RequestsAgree}
 use Rattle.mm_parts.specs.{SetsAgree, InFrame, IsValidFor, EntrySays, PartsKept}
 use Rattle.mm_parts.proofs.Keeping.{known}

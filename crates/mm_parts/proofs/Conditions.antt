@@ -6,14 +6,14 @@ use Rattle.std.proofs.lemmas.Bool.{and_parts, or_left, not-true, ltb-true}
 use Rattle.mm_types.proofs.{get_within, none_is}
 use Rattle.mm_types.specs.{Frame, Area, Pid, Vpn, Key, Place, Backing, Slot, Record, LineKind, Stored}
 use Rattle.mm_types.specs.declared.numbers.Key.TheVariants.{Private, Shared}
-use Rattle.mm_life.specs.{record_at, is_first, is_empty, slot_of, is_read, has_request, set_in, set_of, same_place, key_of_place, IsLegal, owner_is}
-use Rattle.mm_life.specs.{fits_place, is_below_max, touches, is_touch, backing_of, is_on, is_access, is_thread, is_writer, is_call, is_stored}
-use Rattle.mm_life.specs.{is_lowest, is_block, has_depth, may_write_block}
-use Rattle.mm_laws.specs.{block_of, block_in, block_held, one_if}
-use Rattle.mm_laws.proofs.{kept_inside, Standby, first_standby, owner_passes, same_place-true, on_modified, idle_is, Fresh, fresh_read, times_on}
-use Rattle.mm_laws.proofs.{lowest_taken}
-use Rattle.mm_words.specs.{IsEntry, Entry, WordsOf, key_entry, is_valid_entry, is_there, keeps_places, has_word, valid_frame, made_valid, place_from}
-use Rattle.mm_words.specs.{bare}
+use Rattle.mm_move_rules.specs.{record_at, is_first, is_empty, slot_of, is_read, has_request, set_in, set_of, same_place, key_of_place, IsLegal, owner_is}
+use Rattle.mm_move_rules.specs.{fits_place, is_below_max, touches, is_touch, backing_of, is_on, is_access, is_thread, is_writer, is_call, is_stored}
+use Rattle.mm_move_rules.specs.{is_lowest, is_block, has_depth, may_write_block}
+use Rattle.mm_move_laws.specs.{block_of, block_in, block_held, one_if}
+use Rattle.mm_move_laws.proofs.{kept_inside, Standby, first_standby, owner_passes, same_place-true, on_modified, idle_is, Fresh, fresh_read, times_on}
+use Rattle.mm_move_laws.proofs.{lowest_taken}
+use Rattle.mm_page_tables.specs.{IsEntry, Entry, WordsOf, key_entry, is_valid_entry, is_there, keeps_places, has_word, valid_frame, made_valid, place_from}
+use Rattle.mm_page_tables.specs.{bare}
 use Rattle.mm_parts.specs.{JoinedParts, valid_of, owners, owned_by, life_in, requests_in, PartsKept, front, home_entry, entry_backing, CanLeave}
 use Rattle.mm_parts.specs.{CanName, own_request, is_own_line, lowest_free, goes_to, write_target}
 use Rattle.mm_parts.proofs.Reading.{front_is}
@@ -21,13 +21,13 @@ use Rattle.mm_parts.proofs.Keeping.{known, valid_owned}
 use Rattle.mm_parts.proofs.KeyChanges.{places_kept}
 use Rattle.mm_parts.proofs.Reading.{in_frame, resting_word, backing_bare, backing_held, no_block}
 use Rattle.mm_slots.specs.{free_count, IsLowest}
-use Rattle.mm_frames.specs.{has_block, can_go_to}
-use Rattle.mm_flight.specs.{is_in}
+use Rattle.mm_pfn_database.specs.{has_block, can_go_to}
+use Rattle.mm_requests.specs.{is_in}
 use Rattle.mm_frame_laws.specs.{backing_to}
 use Rattle.mm_parts.proofs.RequestLists.{not_in_flight}
 use Rattle.mm_types.specs.declared.frames.Backing.TheVariants as backing
 use Rattle.mm_types.specs.declared.moves.Move.TheVariants as move
-use Rattle.mm_words.specs.declared.layout.Entry.TheVariants as entry
+use Rattle.mm_page_tables.specs.declared.layout.Entry.TheVariants as entry
 use Rattle.mm_types.specs.declared.moves.LineKind.TheVariants as kind
 use Rattle.mm_types.specs.declared.moves.Stored.TheVariants as stored
 

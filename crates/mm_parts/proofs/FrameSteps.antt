@@ -3,15 +3,15 @@ use Rattle.std.proofs.Common.{◌≡◌, ℕ, ◌<◌, Bool, true, false, List, 
 use Rattle.std.specs.Prelude.{◌==◌, ◌&&◌, ◌||◌, not, is_some, nat_lt, map, if◌then◌else◌, slice_set, slice_get}
 use Rattle.std.proofs.lemmas.Bool.{and_parts, or_left, or_right, not-true, ltb-true}
 use Rattle.mm_types.specs.{Frame, Block, Record, Backing, Move, Stored, Key, Place}
-use Rattle.mm_life.specs.{FrameLife, FrameTable, blank, record_at, has_request, is_read, is_write, is_again, slot_of, without, without_slot, soiled}
-use Rattle.mm_life.specs.{read_done, write_done, write_lost, being_written, slot_after_soil, slot_after_read, slot_after_wrote, slot_after_lost}
-use Rattle.mm_life.specs.{after_clear, after_soil, after_got, after_write, after_wrote, after_lost, IsLegal, is_touch, is_io, is_access, is_call}
-use Rattle.mm_life.specs.{is_block, after_move, freed, is_first, is_empty, given, being_read, after_give, after_read, after_steal, after_bad, changed}
-use Rattle.mm_life.specs.{same_key, is_thread, is_zero, is_stored, has_depth, backing_of, homed}
-use Rattle.mm_laws.specs.{one_if, times, is_backed, Sight}
-use Rattle.mm_laws.proofs.{read_has, write_has, kept_inside, changes_give, first_zeroed, Standby, first_standby, Fresh, fresh_read}
-use Rattle.mm_frames.specs.{FramesOf, has_block, slot_after_write, write_ended, read_ended}
-use Rattle.mm_flight.specs.{ended}
+use Rattle.mm_move_rules.specs.{FrameLife, FrameTable, blank, record_at, has_request, is_read, is_write, is_again, slot_of, without, without_slot, soiled}
+use Rattle.mm_move_rules.specs.{read_done, write_done, write_lost, being_written, slot_after_soil, slot_after_read, slot_after_wrote, slot_after_lost}
+use Rattle.mm_move_rules.specs.{after_clear, after_soil, after_got, after_write, after_wrote, after_lost, IsLegal, is_touch, is_io, is_access, is_call}
+use Rattle.mm_move_rules.specs.{is_block, after_move, freed, is_first, is_empty, given, being_read, after_give, after_read, after_steal, after_bad, changed}
+use Rattle.mm_move_rules.specs.{same_key, is_thread, is_zero, is_stored, has_depth, backing_of, homed}
+use Rattle.mm_move_laws.specs.{one_if, times, is_backed, Sight}
+use Rattle.mm_move_laws.proofs.{read_has, write_has, kept_inside, changes_give, first_zeroed, Standby, first_standby, Fresh, fresh_read}
+use Rattle.mm_pfn_database.specs.{FramesOf, has_block, slot_after_write, write_ended, read_ended}
+use Rattle.mm_requests.specs.{ended}
 use Rattle.mm_parts.specs.{JoinedParts, life_in, shown_of, requests_in, own_is, is_own_line, PartsKept, parts_after, own_after, own_ended}
 use Rattle.mm_parts.specs.{flight_begun, flight_ended, write_end, slots_to, owners, owned_by, held_by, stands_of, names_of, is_paging, life_of}
 use Rattle.mm_parts.specs.{requests, is_aside_entry, names_after_give, home_entry, words_sent, CanSend, end_of_read, PartsOf}
@@ -22,9 +22,9 @@ use Rattle.mm_parts.proofs.Keeping.{Step, known, quiet_step, waits_shown, step_t
 use Rattle.mm_parts.proofs.RequestLists.{ended_requests, ended_waits, ended_depth, ended_within, waits_ended, unread_waits, begun_requests}
 use Rattle.mm_parts.proofs.RequestLists.{begun_within, begun_depth, begun_waits, waits_begun}
 use Rattle.mm_parts.proofs.Conditions.{CanWrite, write_can, home_can}
-use Rattle.mm_life.proofs.{write_not_read, soiled_part, done_part, records_taken}
+use Rattle.mm_move_rules.proofs.{write_not_read, soiled_part, done_part, records_taken}
 use Rattle.mm_types.specs.declared.numbers.Key.TheVariants.{Private, Shared}
-use Rattle.mm_words.specs.{WordsOf, key_entry, with_entry, is_there, has_word, is_valid_entry}
+use Rattle.mm_page_tables.specs.{WordsOf, key_entry, with_entry, is_there, has_word, is_valid_entry}
 use Rattle.mm_parts.proofs.Stands.{is_used, names_moved, names_used}
 use Rattle.mm_parts.proofs.KeyChanges.{Rewords, is_beside, rests, key_step, key_life}
 use Rattle.mm_parts.proofs.Reading.{resting_word, zero_word, stored_word, away_calm, home_held, home_paging, home_lands, home_resting, home_used}
@@ -33,7 +33,7 @@ use Rattle.mm_types.specs.declared.frames.Backing.TheVariants as backing
 use Rattle.mm_types.specs.declared.moves.Move.TheVariants as move
 use Rattle.mm_types.specs.declared.moves.Stored.TheVariants as stored
 use Rattle.mm_types.specs.declared.frames.Held.TheVariants as held
-use Rattle.mm_words.specs.declared.layout.Entry.TheVariants as entry
+use Rattle.mm_page_tables.specs.declared.layout.Entry.TheVariants as entry
 
 -- ---- clear
 

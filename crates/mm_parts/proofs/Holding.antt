@@ -5,17 +5,17 @@ use Rattle.std.proofs.Math.Logic.{∥∥₁_elim}
 use Rattle.std.proofs.Props.{props}
 use Rattle.std.proofs.lemmas.Bool.{or_left, or_right}
 use Rattle.mm_types.specs.{Frame, Key, Place}
-use Rattle.mm_life.specs.{ResidentSet, record_at, has_request, is_read, is_dead, set_in}
-use Rattle.mm_laws.specs.{one_if, times}
-use Rattle.mm_laws.proofs.Requests.{read_has}
-use Rattle.mm_laws.proofs.Sights.{kept_inside}
-use Rattle.mm_laws.proofs.Deduced.{blocks_apart}
-use Rattle.mm_words.specs.{Entry, Aside, key_entry, has_word, is_there, valid_frame}
-use Rattle.mm_words.specs.declared.layout.Entry.TheVariants as entry
-use Rattle.mm_flight.specs.{is_in}
+use Rattle.mm_move_rules.specs.{ResidentSet, record_at, has_request, is_read, is_dead, set_in}
+use Rattle.mm_move_laws.specs.{one_if, times}
+use Rattle.mm_move_laws.proofs.Requests.{read_has}
+use Rattle.mm_move_laws.proofs.Sights.{kept_inside}
+use Rattle.mm_move_laws.proofs.Deduced.{blocks_apart}
+use Rattle.mm_page_tables.specs.{Entry, Aside, key_entry, has_word, is_there, valid_frame}
+use Rattle.mm_page_tables.specs.declared.layout.Entry.TheVariants as entry
+use Rattle.mm_requests.specs.{is_in}
 use Rattle.mm_parts.specs.{JoinedParts, Owners, owners, owned_by, held_by, named_by, life_in, shown_of, requests, requests_in, own_is, HasSet}
 use Rattle.mm_parts.specs.{LinesHold, PagesHold, StorageHolds, PartsKept}
-use Rattle.mm_laws.proofs.Facts.{Facts}
+use Rattle.mm_move_laws.proofs.Facts.{Facts}
 use Rattle.mm_parts.proofs.Keeping.{known}
 use Rattle.mm_parts.proofs.RequestLists.{own_apart}
 use Rattle.mm_parts.proofs.Reading.{word_home}

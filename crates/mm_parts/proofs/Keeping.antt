@@ -2,16 +2,16 @@
 use Rattle.std.proofs.Common.{◌≡◌, ℕ, Bool, true, List, Option, sym, ap, ◌∙◌, subst, ◌≢◌, false, Some, refl, arith}
 use Rattle.std.specs.Prelude.{is_some, Result, Ok, Err, OnOk, OnErr}
 use Rattle.mm_types.specs.{Frame, Move, Record, Place}
-use Rattle.mm_life.specs.{FrameTable, IsLegal, after_move, record_at, is_read}
-use Rattle.mm_flight.specs.{FlightOf, Waiting}
+use Rattle.mm_move_rules.specs.{FrameTable, IsLegal, after_move, record_at, is_read}
+use Rattle.mm_requests.specs.{FlightOf, Waiting}
 use Rattle.mm_parts.specs.{JoinedParts, PartsOf, names_of, life_of, life_in, shown_of, requests, requests_in, is_own_line, PartsKept, AreWaits}
 use Rattle.mm_parts.specs.{parts_after, valid_of}
-use Rattle.mm_laws.proofs.Facts.{facts_of, reached_by, Facts}
+use Rattle.mm_move_laws.proofs.Facts.{facts_of, reached_by, Facts}
 use Rattle.mm_parts.proofs.Stands.{Rewrites, Quiet, life_quiet, same_owners, words_frame}
 use Rattle.std.proofs.lemmas.Bool.{lt-ltb}
 use Rattle.mm_types.proofs.Booleans.{not_true}
-use Rattle.mm_words.specs.{Entry, is_valid_entry, is_there, valid_frame, bare, WordsOf}
-use Rattle.mm_words.specs.declared.layout.Entry.TheVariants as entry
+use Rattle.mm_page_tables.specs.{Entry, is_valid_entry, is_there, valid_frame, bare, WordsOf}
+use Rattle.mm_page_tables.specs.declared.layout.Entry.TheVariants as entry
 
 -- what the parts are after a call: they keep what they keep, and show this
 pub record Step (u : JoinedParts) (s : PartsOf) : Type 0 where

@@ -8,13 +8,13 @@ use Rattle.mm_types.proofs.Options.{some_map}
 use Rattle.mm_types.specs.{Frame, Area, Block, Key, Place, Record, Move, MachineOf}
 use Rattle.mm_types.specs.declared.numbers.Key.TheVariants.{Private, Shared}
 use Rattle.mm_types.specs.declared.frames.Held.TheVariants as held
-use Rattle.mm_life.specs.{FrameTable, blank, record_at, changed, same_key, same_place, set_in, IsLegal, is_touch, after_move}
-use Rattle.mm_laws.proofs.PlaceCounts.{same_place-self}
-use Rattle.mm_laws.proofs.Facts.{reached_by}
-use Rattle.mm_frames.specs.{has_block}
-use Rattle.mm_flight.specs.{FlightOf}
-use Rattle.mm_words.specs.{Entry, Aside, WordsOf, key_entry, with_entry, with_own, keeps_places, is_valid_entry, is_aside, place_from}
-use Rattle.mm_words.specs.declared.layout.Entry.TheVariants as entry
+use Rattle.mm_move_rules.specs.{FrameTable, blank, record_at, changed, same_key, same_place, set_in, IsLegal, is_touch, after_move}
+use Rattle.mm_move_laws.proofs.PlaceCounts.{same_place-self}
+use Rattle.mm_move_laws.proofs.Facts.{reached_by}
+use Rattle.mm_pfn_database.specs.{has_block}
+use Rattle.mm_requests.specs.{FlightOf}
+use Rattle.mm_page_tables.specs.{Entry, Aside, WordsOf, key_entry, with_entry, with_own, keeps_places, is_valid_entry, is_aside, place_from}
+use Rattle.mm_page_tables.specs.declared.layout.Entry.TheVariants as entry
 use Rattle.mm_parts.specs.{JoinedParts, LineOf, owners, owned_by, held_by, stands_of, valid_of, names_of, is_paging, paging_of, life_of, life_in}
 use Rattle.mm_parts.specs.{shown_of, requests, is_own_line, WordsKept, is_aside_entry, names_other, PartsKept, LineKept, AreWaits, parts_after}
 use Rattle.mm_parts.proofs.Stands.{paging_at, same_life, if_either, by_key, by_place, own_cases, stands_set, stands_owner, proto_by, left_set, sets_set, valid_set, word_set}

@@ -6,13 +6,13 @@ use Rattle.std.proofs.lemmas.Bool.{and_parts, or_left, eqb-true, ltb-true, lt-lt
 use Rattle.mm_types.proofs.{not_true, differ, same_or_not}
 use Rattle.mm_types.specs.{Frame, Key, Place, Record, Held, LineKind, limit_of, Area, Block, Pid, Vpn}
 use Rattle.mm_types.specs.declared.numbers.Key.TheVariants.{Private, Shared}
-use Rattle.mm_life.specs.{FrameTable, blank, record_at, has_request, is_read, disowned, off_lists, to_free, with_record, after_drop, slot_after_drop}
-use Rattle.mm_life.specs.{IsLegal, is_touch, is_call, is_unbind, is_unmapped, after_move, freed, dropped_at, unlisted, slot_at, FrameLife, changed}
-use Rattle.mm_life.specs.{same_key, same_place, is_shared, is_live, is_dead, may_copy, touches, shows_shared, owner_is}
-use Rattle.mm_laws.specs.{is_home_for}
-use Rattle.mm_laws.proofs.{read_has, kept_inside, dead_is, owner_passes, reached_by}
-use Rattle.mm_words.specs.{Entry, Aside, key_entry, with_entry, is_valid_entry, is_there, is_aside, keeps_places, place_from, bare, aside_or}
-use Rattle.mm_words.specs.{with_aside, valid_frame}
+use Rattle.mm_move_rules.specs.{FrameTable, blank, record_at, has_request, is_read, disowned, off_lists, to_free, with_record, after_drop, slot_after_drop}
+use Rattle.mm_move_rules.specs.{IsLegal, is_touch, is_call, is_unbind, is_unmapped, after_move, freed, dropped_at, unlisted, slot_at, FrameLife, changed}
+use Rattle.mm_move_rules.specs.{same_key, same_place, is_shared, is_live, is_dead, may_copy, touches, shows_shared, owner_is}
+use Rattle.mm_move_laws.specs.{is_home_for}
+use Rattle.mm_move_laws.proofs.{read_has, kept_inside, dead_is, owner_passes, reached_by}
+use Rattle.mm_page_tables.specs.{Entry, Aside, key_entry, with_entry, is_valid_entry, is_there, is_aside, keeps_places, place_from, bare, aside_or}
+use Rattle.mm_page_tables.specs.{with_aside, valid_frame}
 use Rattle.mm_parts.specs.{JoinedParts, LineOf, owners, owned_by, held_by, names_of, life_in, shown_of, requests_in, is_aside_entry, PartsKept}
 use Rattle.mm_parts.specs.{parts_after, names_after_drop, table_released, slot_released, IsReleased, stands_of, valid_of, named_by, is_paging}
 use Rattle.mm_parts.specs.{life_of, WordsKept, names_other, aside_added, aside_after_add, IsClear, HasHome, copy_place}
@@ -29,7 +29,7 @@ use Rattle.mm_parts.proofs.LineSteps.{no_place}
 use Rattle.mm_types.specs.declared.frames.Held.TheVariants as held
 use Rattle.mm_types.specs.declared.moves.LineKind.TheVariants as kind
 use Rattle.mm_types.specs.declared.moves.Move.TheVariants as move
-use Rattle.mm_words.specs.declared.layout.Entry.TheVariants as entry
+use Rattle.mm_page_tables.specs.declared.layout.Entry.TheVariants as entry
 
 -- ---- a word changes and no frame
 

@@ -6,28 +6,28 @@ use Rattle.std.specs.Prelude.{IfSome}
 use Rattle.std.proofs.lemmas.Bool.{and_parts, eqb-true, leb-true, le-leb, ltb-true}
 use Rattle.mm_types.proofs.{some_map, both}
 use Rattle.mm_types.specs.{IsMachine, Frame, Pid, LineKind, MachineOf, Key, Range, holds_page, end_of_user_pages, Area, Place, Vpn}
-use Rattle.mm_life.specs.{ResidentSet, FrameLife, set_in, IsLegal, is_legal_kind, free_table, unstarted, after_move, changed, same_place, aged}
-use Rattle.mm_life.specs.{IsOldest}
-use Rattle.mm_laws.proofs.{set_more, reached_by, reached_start, reached_next}
-use Rattle.mm_words.specs.{Aside, WordsOf, key_entry, no_words, Entry, own_word, aside_or, place_from, valid_frame, changed_in, is_valid_entry, pages}
-use Rattle.mm_words.specs.{ages_in, GoesBehind, IsOldestOf, NoneBehind}
+use Rattle.mm_move_rules.specs.{ResidentSet, FrameLife, set_in, IsLegal, is_legal_kind, free_table, unstarted, after_move, changed, same_place, aged}
+use Rattle.mm_move_rules.specs.{IsOldest}
+use Rattle.mm_move_laws.proofs.{set_more, reached_by, reached_start, reached_next}
+use Rattle.mm_page_tables.specs.{Aside, WordsOf, key_entry, no_words, Entry, own_word, aside_or, place_from, valid_frame, changed_in, is_valid_entry, pages}
+use Rattle.mm_page_tables.specs.{ages_in, GoesBehind, IsOldestOf, NoneBehind}
 use Rattle.mm_parts.specs.{JoinedParts, life_in, shown_of, requests_in, PartsKept, WithinLine, parts_after, IsPlainLine, words_begun, CanBeginSet}
 use Rattle.mm_parts.specs.{more_slots, owners, stands_of, is_paging, first_parts, started_parts, first_kind, first_move, owned_by, held_by, valid_of}
 use Rattle.mm_parts.specs.{named_by, names_of, life_of, WordsKept, after_page}
 use Rattle.mm_parts.proofs.Keeping.{Step, known}
 use Rattle.std.proofs.lemmas.List.{length-replicate}
 use Rattle.mm_types.specs.declared.numbers.Key.TheVariants.{Private, Shared}
-use Rattle.mm_laws.specs.{ReachedByMoves}
+use Rattle.mm_move_laws.specs.{ReachedByMoves}
 use Rattle.mm_parts.proofs.Stands.{same_life, at_if}
-use Rattle.mm_wset.specs.{GoesBefore, IsNextFrom}
+use Rattle.mm_working_sets.specs.{GoesBefore, IsNextFrom}
 use Rattle.std.specs.Option.{ForSome}
 use Rattle.mm_frame_laws.specs.{FollowsPage, IsNextPage, NoPageFollows}
 use Rattle.mm_frame_laws.proofs.{next_oldest, all_go}
 use Rattle.mm_types.specs.declared.moves.LineKind.TheVariants as kind
 use Rattle.mm_types.specs.declared.moves.Move.TheVariants as move
 use Rattle.mm_types.specs.declared.frames.Held.TheVariants as held
-use Rattle.mm_flight.specs.declared.flights.Waiting.TheVariants as waiting
-use Rattle.mm_words.specs.declared.layout.Entry.TheVariants as entry
+use Rattle.mm_requests.specs.declared.flights.Waiting.TheVariants as waiting
+use Rattle.mm_page_tables.specs.declared.layout.Entry.TheVariants as entry
 
 -- the line after
 record Next (t : JoinedParts) (n : ℕ) (k : LineKind) : Type 0 where

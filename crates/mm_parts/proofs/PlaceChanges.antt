@@ -6,11 +6,11 @@ use Rattle.std.proofs.lemmas.Bool.{or_left, and_parts, eqb-true, eq-eqb}
 use Rattle.mm_types.proofs.{same_or_not, both}
 use Rattle.mm_types.specs.{Frame, Area, Block, Key, Place, Record, Held}
 use Rattle.mm_types.specs.declared.numbers.Key.TheVariants.{Private, Shared}
-use Rattle.mm_life.specs.{record_at, shared, unshared, after_map, after_unmap, ResidentSet, changed, same_key, same_place, key_of_place, set_in}
-use Rattle.mm_life.specs.{with_resident, resident_by, IsLegal, after_move, after_unmap_at, is_dead}
-use Rattle.mm_laws.proofs.{set_here, set_else, kept_inside, reached_by, key_or_not, same_key-self, same_place-self, same_place-true}
-use Rattle.mm_words.specs.{Entry, Aside, WordsOf, key_entry, own_word, aside_or, is_aside, without_aside, made_valid, made_invalid, place_from}
-use Rattle.mm_words.specs.{valid_frame, is_valid_entry, changed_at}
+use Rattle.mm_move_rules.specs.{record_at, shared, unshared, after_map, after_unmap, ResidentSet, changed, same_key, same_place, key_of_place, set_in}
+use Rattle.mm_move_rules.specs.{with_resident, resident_by, IsLegal, after_move, after_unmap_at, is_dead}
+use Rattle.mm_move_laws.proofs.{set_here, set_else, kept_inside, reached_by, key_or_not, same_key-self, same_place-self, same_place-true}
+use Rattle.mm_page_tables.specs.{Entry, Aside, WordsOf, key_entry, own_word, aside_or, is_aside, without_aside, made_valid, made_invalid, place_from}
+use Rattle.mm_page_tables.specs.{valid_frame, is_valid_entry, changed_at}
 use Rattle.mm_parts.specs.{JoinedParts, Owners, owners, owned_by, held_by, stands_of, valid_of, named_by, names_of, is_paging, life_of, life_in}
 use Rattle.mm_parts.specs.{shown_of, requests_in, WordsKept, names_other, PartsKept, parts_after, left_by, names_after_map, has_owner, is_aside_entry}
 use Rattle.mm_parts.specs.{MayMap, words_named, words_left}
@@ -22,7 +22,7 @@ use Rattle.mm_parts.proofs.Reading.{beside_shared, in_frame}
 use Rattle.std.proofs.lemmas.Bool.Decides.{nat_tests}
 use Rattle.mm_parts.proofs.Conditions.{mappable, own_place, Leaving}
 use Rattle.mm_types.specs.declared.moves.Move.TheVariants as move
-use Rattle.mm_words.specs.declared.layout.Entry.TheVariants as entry
+use Rattle.mm_page_tables.specs.declared.layout.Entry.TheVariants as entry
 use Rattle.mm_types.specs.declared.frames.Held.TheVariants as held
 
 no_file_cond : (b : Bool) (x y : Entry) (c : Block) → x ≢ entry.InFile c → y ≢ entry.InFile c → cond b x y ≢ entry.InFile c

@@ -4,23 +4,23 @@ use Rattle.std.proofs.Common.{◌<◌, length}
 use Rattle.std.specs.Prelude.{not, if◌then◌else◌, slice_get, is_some, is_none, option_map, unwrap_or, nat_lt}
 use Rattle.mm_types.specs.{Frame, Key, Place, Backing, Held, Pid, Vpn}
 use Rattle.mm_types.specs.declared.numbers.Key.TheVariants.{Private, Shared}
-use Rattle.mm_life.specs.{FrameTable, record_at, is_shared, is_live, is_dead, key_of_place, is_zero, is_stored, home_at, backing_of, is_empty, rest}
-use Rattle.mm_life.specs.{after_steal, taken_for_read, has_request}
-use Rattle.mm_laws.specs.{is_backed, is_backing_for, is_home_for}
-use Rattle.mm_laws.proofs.PlaceCounts.{same_place-true, same_place-self}
-use Rattle.mm_frames.specs.{has_block, FramesOf, standby_taken, free_put, emptied}
-use Rattle.mm_words.specs.{Entry, Aside, key_entry, is_valid_entry, place_from, bare, aside_or, has_word, valid_frame}
+use Rattle.mm_move_rules.specs.{FrameTable, record_at, is_shared, is_live, is_dead, key_of_place, is_zero, is_stored, home_at, backing_of, is_empty, rest}
+use Rattle.mm_move_rules.specs.{after_steal, taken_for_read, has_request}
+use Rattle.mm_move_laws.specs.{is_backed, is_backing_for, is_home_for}
+use Rattle.mm_move_laws.proofs.PlaceCounts.{same_place-true, same_place-self}
+use Rattle.mm_pfn_database.specs.{has_block, FramesOf, standby_taken, free_put, emptied}
+use Rattle.mm_page_tables.specs.{Entry, Aside, key_entry, is_valid_entry, place_from, bare, aside_or, has_word, valid_frame}
 use Rattle.mm_parts.specs.{JoinedParts, owners, owned_by, held_by, stands_of, valid_of, is_paging, life_in, is_aside_entry, PartsKept, home_entry}
 use Rattle.mm_parts.specs.{entry_backing, front, has_owner, shown_of, HasHome, first_frame, is_private, is_own_page}
 use Rattle.mm_parts.proofs.Keeping.{known}
 use Rattle.mm_parts.proofs.Stands.{at_place, is_used, held_same}
 use Rattle.mm_parts.proofs.KeyChanges.{is_resting}
-use Rattle.mm_life.proofs.Held.{stored_live}
+use Rattle.mm_move_rules.proofs.Held.{stored_live}
 use Rattle.std.proofs.lemmas.Bool.{ltb-true, lt-ltb, or_left}
-use Rattle.mm_laws.proofs.Sights.{kept_inside}
+use Rattle.mm_move_laws.proofs.Sights.{kept_inside}
 use Rattle.mm_types.specs.declared.frames.Backing.TheVariants as backing
 use Rattle.mm_types.specs.declared.frames.Held.TheVariants as held
-use Rattle.mm_words.specs.declared.layout.Entry.TheVariants as entry
+use Rattle.mm_page_tables.specs.declared.layout.Entry.TheVariants as entry
 
 -- ---- a key in a frame
 

@@ -6,12 +6,12 @@ use Rattle.std.proofs.lemmas.Option.{slice_get-map}
 use Rattle.mm_types.proofs.Booleans.{not_true}
 use Rattle.mm_types.proofs.Bytes.{append_nil}
 use Rattle.mm_types.specs.{Frame, LineKind, Record}
-use Rattle.mm_life.specs.{FrameTable, record_at, is_read, without}
-use Rattle.mm_laws.specs.{one_if, times}
-use Rattle.mm_laws.proofs.Tallies.{tally-append, times_on, times-without_other}
-use Rattle.mm_laws.proofs.Lists.{without_append, without_none}
-use Rattle.mm_flight.specs.{FlightOf, is_in, ended, Waiting}
-use Rattle.mm_flight.specs.declared.flights.Waiting.TheVariants as waiting
+use Rattle.mm_move_rules.specs.{FrameTable, record_at, is_read, without}
+use Rattle.mm_move_laws.specs.{one_if, times}
+use Rattle.mm_move_laws.proofs.Tallies.{tally-append, times_on, times-without_other}
+use Rattle.mm_move_laws.proofs.Lists.{without_append, without_none}
+use Rattle.mm_requests.specs.{FlightOf, is_in, ended, Waiting}
+use Rattle.mm_requests.specs.declared.flights.Waiting.TheVariants as waiting
 use Rattle.mm_parts.specs.{requests, own_request, own_is, is_own_line, AreWaits, own_after, own_ended, flight_begun, flight_ended}
 use Rattle.mm_parts.proofs.Stands.{Rewrites}
 

@@ -5,23 +5,23 @@ use Rattle.std.specs.Prelude.{not, if◌then◌else◌, option_map, is_some, sli
 use Rattle.std.proofs.lemmas.Bool.{and_parts, not-true}
 use Rattle.mm_types.specs.{Frame, Key, Place, Held, Pid, Vpn, Record}
 use Rattle.mm_types.specs.declared.numbers.Key.TheVariants.{Private, Shared}
-use Rattle.mm_life.specs.{ResidentSet, FrameTable, record_at, FrameLife, changed, same_key, same_place, key_of_place, is_shared, blank, is_read}
-use Rattle.mm_life.specs.{with_record, settled}
-use Rattle.mm_laws.proofs.Owners.{key_or_not}
-use Rattle.mm_laws.proofs.PlaceCounts.{place_or_not, same_place-true}
-use Rattle.mm_frames.specs.{has_block}
-use Rattle.mm_words.specs.{Entry, Aside, WordsOf, place_from, is_aside, aside_or, own_word, key_entry, is_valid_entry, valid_frame, with_own}
-use Rattle.mm_words.specs.{with_entry, keeps_places}
+use Rattle.mm_move_rules.specs.{ResidentSet, FrameTable, record_at, FrameLife, changed, same_key, same_place, key_of_place, is_shared, blank, is_read}
+use Rattle.mm_move_rules.specs.{with_record, settled}
+use Rattle.mm_move_laws.proofs.Owners.{key_or_not}
+use Rattle.mm_move_laws.proofs.PlaceCounts.{place_or_not, same_place-true}
+use Rattle.mm_pfn_database.specs.{has_block}
+use Rattle.mm_page_tables.specs.{Entry, Aside, WordsOf, place_from, is_aside, aside_or, own_word, key_entry, is_valid_entry, valid_frame, with_own}
+use Rattle.mm_page_tables.specs.{with_entry, keeps_places}
 use Rattle.mm_parts.specs.{Owners, has_owner, held_by, owned_by, stands_of, valid_of, is_paging, LineOf, is_aside_entry, named_by, names_of}
 use Rattle.mm_parts.specs.{names_given, owners, paging_of, life_of, WordsKept, AreWaits}
 use Rattle.mm_types.proofs.Cells.{same_or_not}
-use Rattle.mm_laws.specs.{Fit}
-use Rattle.mm_laws.proofs.Sound.{no_owner, orphan_unshared}
-use Rattle.mm_flight.specs.{FlightOf}
-use Rattle.mm_laws.proofs.Facts.{Facts}
-use Rattle.mm_life.proofs.Records.{records_settled}
+use Rattle.mm_move_laws.specs.{Fit}
+use Rattle.mm_move_laws.proofs.Sound.{no_owner, orphan_unshared}
+use Rattle.mm_requests.specs.{FlightOf}
+use Rattle.mm_move_laws.proofs.Facts.{Facts}
+use Rattle.mm_move_rules.proofs.Records.{records_settled}
 use Rattle.mm_types.specs.declared.frames.Held.TheVariants as held
-use Rattle.mm_words.specs.declared.layout.Entry.TheVariants as entry
+use Rattle.mm_page_tables.specs.declared.layout.Entry.TheVariants as entry
 
 -- ---- one key's word
 

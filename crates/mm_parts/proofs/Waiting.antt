@@ -7,15 +7,15 @@ use Rattle.std.proofs.lemmas.Option.{slice_get-map}
 use Rattle.std.proofs.lemmas.Bool.{eq-eqb}
 use Rattle.mm_types.proofs.{same_or_not, set_cases, get_set_same, get_set_other, differ}
 use Rattle.mm_types.specs.{Frame}
-use Rattle.mm_life.specs.{record_at, is_read, has_request, changed, ForFrame, Ended, ended_by}
-use Rattle.mm_laws.specs.{one_if, times}
-use Rattle.mm_flight.specs.{is_in, place_in, ended, Waiting}
-use Rattle.mm_flight.specs.declared.flights.Waiting.TheVariants as waiting
+use Rattle.mm_move_rules.specs.{record_at, is_read, has_request, changed, ForFrame, Ended, ended_by}
+use Rattle.mm_move_laws.specs.{one_if, times}
+use Rattle.mm_requests.specs.{is_in, place_in, ended, Waiting}
+use Rattle.mm_requests.specs.declared.flights.Waiting.TheVariants as waiting
 use Rattle.mm_parts.specs.{JoinedParts, shown_of, requests, own_request, own_is, PartsKept, AreWaits, wait_as_walked, walked_or, waits_of}
 use Rattle.mm_parts.proofs.Keeping.{Step, known}
 use Rattle.mm_parts.proofs.RequestLists.{in_flight, own_apart, times-append}
 use Rattle.mm_parts.proofs.Holding.{read_once}
-use Rattle.mm_laws.proofs.{one_most}
+use Rattle.mm_move_laws.proofs.{one_most}
 
 -- ---- by frame
 

@@ -4,10 +4,10 @@ use Rattle.std.specs.Prelude.{◌≡◌, ◌≢◌, ◌≤◌, ◌<◌, ◌+◌,
 use Rattle.mm_types.specs.{Area, Frame, Key, Place}
 use Rattle.mm_types.specs.declared.numbers.Key.TheVariants.{Private, Shared}
 use Rattle.mm_types.specs.declared.frames.Held.TheVariants as held
-use Rattle.mm_life.specs.{ResidentSet, record_at, has_request, FrameLife, key_of_place, is_shared, set_of, owner_is}
-use Rattle.mm_laws.specs.{Holder, holding, CountsPlaces, one_if, times}
-use Rattle.mm_words.specs.{Entry, Aside, WordsOf, key_entry, place_from, valid_frame}
-use Rattle.mm_words.specs.declared.layout.Entry.TheVariants as entry
+use Rattle.mm_move_rules.specs.{ResidentSet, record_at, has_request, FrameLife, key_of_place, is_shared, set_of, owner_is}
+use Rattle.mm_move_laws.specs.{Holder, holding, CountsPlaces, one_if, times}
+use Rattle.mm_page_tables.specs.{Entry, Aside, WordsOf, key_entry, place_from, valid_frame}
+use Rattle.mm_page_tables.specs.declared.layout.Entry.TheVariants as entry
 use Rattle.mm_parts.specs.Shown.{requests, is_own_line}
 use Rattle.mm_parts.specs.Words.{is_aside_entry, names_other}
 

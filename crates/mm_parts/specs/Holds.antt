@@ -3,9 +3,9 @@
 use Rattle.std.specs.Prelude.{◌≡◌, ◌≤◌, ◌<◌, ℕ, true, false, length, Some, None, is_some, slice_get}
 use Rattle.mm_types.specs.{end_of_user_pages, IsMachine, Frame, Key, Place}
 use Rattle.mm_types.specs.declared.frames.Held.TheVariants as held
-use Rattle.mm_life.specs.{ResidentSet, record_at, is_read, is_write, slot_of, FrameLife, is_live, set_of, is_touch, fits_place, slot_at}
-use Rattle.mm_laws.specs.{ReachedByMoves, is_backed, block_held, IsAdded, is_home_for, is_backing_for}
-use Rattle.mm_flight.specs.declared.flights.Waiting.TheVariants as waiting
+use Rattle.mm_move_rules.specs.{ResidentSet, record_at, is_read, is_write, slot_of, FrameLife, is_live, set_of, is_touch, fits_place, slot_at}
+use Rattle.mm_move_laws.specs.{ReachedByMoves, is_backed, block_held, IsAdded, is_home_for, is_backing_for}
+use Rattle.mm_requests.specs.declared.flights.Waiting.TheVariants as waiting
 use Rattle.mm_parts.specs.Shown.{PartsOf, is_own_line, own_is}
 use Rattle.mm_parts.specs.Moves.{HasHome}
 

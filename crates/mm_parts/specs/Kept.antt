@@ -1,11 +1,11 @@
 -- What the parts keep, over plain lists and maps.
 use Rattle.std.specs.Prelude.{◌≡◌, ◌≤◌, ◌<◌, ◌^◌, ℕ, true, length, Option, Some, is_some, slice_get}
 use Rattle.mm_types.specs.{end_of_user_pages, IsMachine, Frame, Place, LineKind}
-use Rattle.mm_life.specs.{ResidentSet, FrameTable, record_at, is_read, set_in, is_touch}
-use Rattle.mm_laws.specs.{ReachedByMoves}
-use Rattle.mm_flight.specs.{FlightOf, is_in}
-use Rattle.mm_flight.specs.declared.flights.Waiting.TheVariants as waiting
-use Rattle.mm_words.specs.{WordsOf}
+use Rattle.mm_move_rules.specs.{ResidentSet, FrameTable, record_at, is_read, set_in, is_touch}
+use Rattle.mm_move_laws.specs.{ReachedByMoves}
+use Rattle.mm_requests.specs.{FlightOf, is_in}
+use Rattle.mm_requests.specs.declared.flights.Waiting.TheVariants as waiting
+use Rattle.mm_page_tables.specs.{WordsOf}
 use Rattle.mm_parts.specs.Shown.{JoinedParts, LineOf, life_in, is_own_line}
 use Rattle.mm_parts.specs.Words.{WordsKept}
 

@@ -6,11 +6,11 @@ use Rattle.mm_types.specs.declared.frames.Backing.TheVariants as backing
 use Rattle.mm_types.specs.declared.moves.LineKind.TheVariants as kind
 use Rattle.mm_types.specs.declared.moves.Move.TheVariants as move
 use Rattle.mm_types.specs.declared.moves.Stored.TheVariants as stored
-use Rattle.mm_life.specs.{FrameTable, record_at, after_drop, slot_after_drop, is_touch, owner_is, FrameLife, changed, same_place, key_of_place}
-use Rattle.mm_life.specs.{is_shared, is_dead, after_move, aged}
-use Rattle.mm_words.specs.{Entry, IsEntry, WordsOf, with_entry, has_word, keeps_places, made_invalid}
-use Rattle.mm_words.specs.declared.layout.Entry.TheVariants as entry
-use Rattle.mm_flight.specs.{FlightOf, without, ended}
+use Rattle.mm_move_rules.specs.{FrameTable, record_at, after_drop, slot_after_drop, is_touch, owner_is, FrameLife, changed, same_place, key_of_place}
+use Rattle.mm_move_rules.specs.{is_shared, is_dead, after_move, aged}
+use Rattle.mm_page_tables.specs.{Entry, IsEntry, WordsOf, with_entry, has_word, keeps_places, made_invalid}
+use Rattle.mm_page_tables.specs.declared.layout.Entry.TheVariants as entry
+use Rattle.mm_requests.specs.{FlightOf, without, ended}
 use Rattle.mm_parts.specs.Shown.{PartsOf, is_own_line}
 
 -- ---- the frame or slot that a move takes

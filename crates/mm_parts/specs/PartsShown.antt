@@ -1,8 +1,8 @@
 -- What `Parts` shows.
 use Rattle.std.specs.Prelude.{ℕ, List, Option}
 use Rattle.mm_types.specs.{Place}
-use Rattle.mm_words.specs.Shown as tables
-use Rattle.mm_words.specs.{WordsOf}
+use Rattle.mm_page_tables.specs.Shown as tables
+use Rattle.mm_page_tables.specs.{WordsOf}
 use Rattle.mm_parts.specs.declared.parts.Parts.{Parts}
 use Rattle.mm_parts.specs.Shown.{JoinedParts, PartsOf, shown_of}
 

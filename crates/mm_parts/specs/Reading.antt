@@ -2,9 +2,9 @@
 use Rattle.std.specs.Prelude.{ℕ, Bool, true, false, List, [], ◌∷◌, Option, Some, None, slice_get}
 use Rattle.mm_types.specs.{Frame, Key}
 use Rattle.mm_types.specs.declared.numbers.Key.TheVariants.{Private, Shared}
-use Rattle.mm_flight.specs.{Waiting}
-use Rattle.mm_flight.specs.declared.flights.Waiting.TheVariants as waiting
-use Rattle.mm_life.specs.{Waiting as Walked, Idle, ForFrame, Ended}
+use Rattle.mm_requests.specs.{Waiting}
+use Rattle.mm_requests.specs.declared.flights.Waiting.TheVariants as waiting
+use Rattle.mm_move_rules.specs.{Waiting as Walked, Idle, ForFrame, Ended}
 
 -- the first of a list of frames, if it has one
 abbrev pub first_frame : List ℕ → Option Frame

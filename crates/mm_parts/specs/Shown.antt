@@ -3,11 +3,11 @@ use Rattle.std.specs.Prelude.{ℕ, Bool, true, false, not, ◌==◌, ◌||◌, �
 use Rattle.mm_types.specs.{MachineOf, Frame, Key, Place, Held, LineKind}
 use Rattle.mm_types.specs.declared.numbers.Key.TheVariants.{Private, Shared}
 use Rattle.mm_types.specs.declared.frames.Held.TheVariants as held
-use Rattle.mm_life.specs.{FrameTable, record_at, FrameLife, same_key, key_of_place, is_access, is_call}
-use Rattle.mm_flight.specs.{FlightOf, Waiting}
-use Rattle.mm_frames.specs.{has_block}
-use Rattle.mm_words.specs.{Entry, WordsOf, key_entry, valid_frame}
-use Rattle.mm_words.specs.declared.layout.Entry.TheVariants as entry
+use Rattle.mm_move_rules.specs.{FrameTable, record_at, FrameLife, same_key, key_of_place, is_access, is_call}
+use Rattle.mm_requests.specs.{FlightOf, Waiting}
+use Rattle.mm_pfn_database.specs.{has_block}
+use Rattle.mm_page_tables.specs.{Entry, WordsOf, key_entry, valid_frame}
+use Rattle.mm_page_tables.specs.declared.layout.Entry.TheVariants as entry
 
 -- the owner of each frame
 abbrev pub Owners : Type 0

@@ -3,9 +3,9 @@ use Rattle.std.specs.Prelude.{ℕ, ◌+◌, true, false, [], replicate, None}
 use Rattle.mm_types.specs.{MachineOf, LineKind, Move}
 use Rattle.mm_types.specs.declared.moves.LineKind.TheVariants as kind
 use Rattle.mm_types.specs.declared.moves.Move.TheVariants as move
-use Rattle.mm_life.specs.{free_table, unstarted, after_move}
-use Rattle.mm_flight.specs.declared.flights.Waiting.TheVariants as waiting
-use Rattle.mm_words.specs.{no_words, no_ages}
+use Rattle.mm_move_rules.specs.{free_table, unstarted, after_move}
+use Rattle.mm_requests.specs.declared.flights.Waiting.TheVariants as waiting
+use Rattle.mm_page_tables.specs.{no_words, no_ages}
 use Rattle.mm_parts.specs.Shown.{JoinedParts, PartsOf}
 
 abbrev pub first_kind : MachineOf → LineKind

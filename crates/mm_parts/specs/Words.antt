@@ -1,9 +1,9 @@
 -- What the parts keep of words, beside what follows from the replay's state.
 use Rattle.std.specs.Prelude.{◌≡◌, ◌≢◌, ◌≤◌, ℕ, Bool, true, false, Some}
 use Rattle.mm_types.specs.{Area, Block, Frame, Key, Place}
-use Rattle.mm_life.specs.{FrameTable, record_at}
-use Rattle.mm_words.specs.{Entry, Aside, WordsOf, key_entry}
-use Rattle.mm_words.specs.declared.layout.Entry.TheVariants as entry
+use Rattle.mm_move_rules.specs.{FrameTable, record_at}
+use Rattle.mm_page_tables.specs.{Entry, Aside, WordsOf, key_entry}
+use Rattle.mm_page_tables.specs.declared.layout.Entry.TheVariants as entry
 
 -- an entry that a private key can have beside the tables
 abbrev pub is_aside_entry : Entry → Bool

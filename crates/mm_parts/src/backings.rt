@@ -1,11 +1,11 @@
 ghost use Rattle.std.specs.Prelude.{◌≡◌, ℕ, Some, false, option_map, slice_get};
-ghost use Rattle.mm_life.specs.{freed};
+ghost use Rattle.mm_move_rules.specs.{freed};
 ghost use Rattle.mm_frame_laws.specs.{backing_to};
 ghost use Rattle.mm_parts.specs.{home_entry, entry_backing};
 
 use mm_slots::Slots;
 use mm_types::{Backing, Slot, Stored};
-use mm_words::Entry;
+use mm_page_tables::Entry;
 
 /// The entry of a page that is in no frame, by where its bytes stand.
 pub(crate) fn home(backing: Backing) -> Entry

@@ -2,8 +2,8 @@ ghost use Rattle.std.specs.Prelude.{◌≡◌, ◌≤◌, ◌<◌, ◌+◌, ◌^
 ghost use Rattle.mm_types.specs.{first_user_page, end_of_user_pages};
 ghost use Rattle.mm_types.specs.declared.numbers.Key.TheVariants.{Private, Shared};
 ghost use Rattle.mm_types.specs.declared.frames.Held.TheVariants as held;
-ghost use Rattle.mm_life.specs.{changed, set_of};
-ghost use Rattle.mm_words.specs.{pages, changed_in, place_from};
+ghost use Rattle.mm_move_rules.specs.{changed, set_of};
+ghost use Rattle.mm_page_tables.specs.{pages, changed_in, place_from};
 
 use crate::parts::Parts;
 use mm_types::{Area, NoMemory, Pid, Vpn};

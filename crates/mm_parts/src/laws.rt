@@ -1,9 +1,9 @@
 ghost use Rattle.std.specs.Prelude.{◌≡◌, ℕ, Bool, List, Some, false, true, length, map};
 ghost use Rattle.mm_types.specs.{Frame};
-ghost use Rattle.mm_life.specs.{record_at, is_read, ended_by};
+ghost use Rattle.mm_move_rules.specs.{record_at, is_read, ended_by};
 ghost use Rattle.mm_ram.specs.{page_at, bytes_of, zero_page};
-ghost use Rattle.mm_frames.specs.{is_bound};
-ghost use Rattle.mm_flight.specs.{ended, Waiting};
+ghost use Rattle.mm_pfn_database.specs.{is_bound};
+ghost use Rattle.mm_requests.specs.{ended, Waiting};
 ghost use Rattle.mm_parts.specs.{EntriesAgree, SlotsAgree, RequestsAgree, SetsAgree, LinesHold, PagesHold, StorageHolds, waits_of};
 
 use crate::parts::Parts;

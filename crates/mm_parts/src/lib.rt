@@ -1,7 +1,7 @@
 //! The joined state's middle layer: page frames, words, slots and requests, which name one another,
 //! and one call for each move.
 //!
-//! Its parts show a state of the replay (`mm_life`); each call has the move's condition and the
+//! Its parts show a state of the replay (`mm_move_rules`); each call has the move's condition and the
 //! move's effect there.
 #![tactic(auto)]
 

@@ -1,16 +1,16 @@
 ghost use Rattle.std.specs.Prelude.{◌≡◌, ◌≤◌, None, IfOk, OnOk};
 ghost use Rattle.mm_types.specs.declared.moves.LineKind.TheVariants as kind;
 ghost use Rattle.mm_types.specs.declared.moves.Move.TheVariants as move;
-ghost use Rattle.mm_life.specs.{IsLegal};
-ghost use Rattle.mm_words.specs.Shown as tables;
+ghost use Rattle.mm_move_rules.specs.{IsLegal};
+ghost use Rattle.mm_page_tables.specs.Shown as tables;
 ghost use Rattle.mm_parts.specs.{parts_after, IsPlainLine, words_begun, CanBeginSet, first_parts, first_kind};
 
 use crate::parts::Parts;
-use mm_flight::Flight;
-use mm_frames::Frames;
+use mm_requests::Flight;
+use mm_pfn_database::Frames;
 use mm_slots::Slots;
 use mm_types::{LineKind, Machine, NoMemory};
-use mm_words::Words;
+use mm_page_tables::Words;
 use std::alloc::Global;
 
 /// The kind of the first line.

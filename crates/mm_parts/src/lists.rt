@@ -1,12 +1,12 @@
 ghost use Rattle.std.specs.Prelude.{◌≡◌, ◌<◌, ◌+◌, ℕ, true, Some, IfSome, count_by, length, option_map, slice_get};
-ghost use Rattle.mm_life.specs.{record_at, is_empty, counts_of};
-ghost use Rattle.mm_frames.specs.{has_block, modified_with_block, IsAtRest};
+ghost use Rattle.mm_move_rules.specs.{record_at, is_empty, counts_of};
+ghost use Rattle.mm_pfn_database.specs.{has_block, modified_with_block, IsAtRest};
 ghost use Rattle.mm_parts.specs.{front, first_frame};
 
 use crate::parts::Parts;
 use mm_types::{Counts, Frame};
 
-#[tactic(auto, using(crate::proofs::Reading::first_is, crate::proofs::Reading::none_first, mm_laws::proofs::Facts::facts_of))]
+#[tactic(auto, using(crate::proofs::Reading::first_is, crate::proofs::Reading::none_first, mm_move_laws::proofs::Facts::facts_of))]
 impl Parts {
     ghost use Rattle.mm_parts.specs.{shown_parts};
 

@@ -1,16 +1,16 @@
 ghost use Rattle.std.specs.Prelude.{◌≡◌, ◌<◌, true, Some, length, None, IfSome, MatchOption, is_some, option_map};
 ghost use Rattle.mm_types.specs.{Frame};
-ghost use Rattle.mm_life.specs.{record_at, set_of, is_at_max, is_above_min, IsOldest};
-ghost use Rattle.mm_words.specs.{valid_frame, place_from};
+ghost use Rattle.mm_move_rules.specs.{record_at, set_of, is_at_max, is_above_min, IsOldest};
+ghost use Rattle.mm_page_tables.specs.{valid_frame, place_from};
 ghost use Rattle.mm_parts.specs.{held_by, HasHome, after_page, is_own_page};
 ghost use Rattle.std.specs.Option.{ForSome};
-ghost use Rattle.mm_wset.specs.{IsNextFrom};
+ghost use Rattle.mm_working_sets.specs.{IsNextFrom};
 ghost use Rattle.mm_frame_laws.specs.{IsNextPage, NoPageFollows};
 
 use crate::parts::Parts;
-use mm_frames::Frames;
+use mm_pfn_database::Frames;
 use mm_types::{Frame, Held, Key, LineKind, Machine, Pid, Place, Record, Vpn};
-use mm_words::Entry;
+use mm_page_tables::Entry;
 
 /// The frame of a valid entry.
 fn frame_of(entry: Entry) -> Option<Frame>

@@ -1,18 +1,18 @@
 ghost use Rattle.std.specs.Prelude.{◌≡◌, Some, None, option_map, true};
-ghost use Rattle.mm_life.specs.{IsLegal, record_at, changed, same_place, key_of_place, is_shared, is_dead, owner_is};
+ghost use Rattle.mm_move_rules.specs.{IsLegal, record_at, changed, same_place, key_of_place, is_shared, is_dead, owner_is};
 ghost use Rattle.mm_ram.specs.{page_at, zero_page, with_page};
 ghost use Rattle.mm_parts.specs.{front, parts_after, names_after_give, HasHome, IsClear, aside_after_add, names_after_drop, table_released};
 ghost use Rattle.mm_parts.specs.{slot_released, IsReleased, copy_place, left_by, names_after_map, MayMap, CanName, words_named, CanLeave, words_left};
-ghost use Rattle.mm_frames.specs.{FramesOf};
-ghost use Rattle.mm_words.specs.{is_valid_entry};
+ghost use Rattle.mm_pfn_database.specs.{FramesOf};
+ghost use Rattle.mm_page_tables.specs.{is_valid_entry};
 ghost use Rattle.mm_types.specs.declared.moves.Move.TheVariants as move;
-ghost use Rattle.mm_words.specs.Shown as tables;
+ghost use Rattle.mm_page_tables.specs.Shown as tables;
 
 use crate::backings::{give_back, home};
 use crate::parts::Parts;
-use mm_frames::{Frames, Stolen};
+use mm_pfn_database::{Frames, Stolen};
 use mm_types::{Block, Frame, Key, LineKind, Place, Slot};
-use mm_words::{Entry, Words};
+use mm_page_tables::{Entry, Words};
 
 /// The page of an entry is no more: its frame goes, unless a request holds it. Answers the slot to
 /// give back.
@@ -234,7 +234,7 @@ impl Parts {
 
     /// A page that is valid somewhere differs from its backing from now on: a slot that backed it
     /// is free. While it is being written, it is to be written again.
-    #[tactic(auto, using(mm_laws::proofs::Facts::facts_of))]
+    #[tactic(auto, using(mm_move_laws::proofs::Facts::facts_of))]
     pub fn soil(&mut self, f: Frame)
         requires legal { IsLegal (move.Soil f) (shown_parts self.old).life }
         ensures made { shown_parts self.new ≡ parts_after (shown_parts self.old) (move.Soil f) }

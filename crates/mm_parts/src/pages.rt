@@ -1,12 +1,12 @@
 ghost use Rattle.std.specs.Prelude.{◌≡◌, ◌≢◌, ◌≤◌, ◌+◌, ℕ, true, false, Some, IsSome, length, is_some};
 ghost use Rattle.mm_types.specs.{Frame};
-ghost use Rattle.mm_life.specs.{record_at, is_read, changed, same_place};
+ghost use Rattle.mm_move_rules.specs.{record_at, is_read, changed, same_place};
 ghost use Rattle.mm_ram.specs.{bytes_of, bytes_from, overwritten, with_page, page_at};
 ghost use Rattle.mm_parts.specs.{ages_older};
 
 use crate::parts::Parts;
 use mm_types::{Frame, Pid, Place};
-use mm_words::Entry;
+use mm_page_tables::Entry;
 
 impl Parts {
     ghost use Rattle.mm_parts.specs.{shown_parts};

@@ -1,23 +1,23 @@
 ghost use Rattle.std.specs.Prelude.{◌≡◌, ◌≢◌, ◌<◌, Some, IsSome, OnOk, OnErr, true, false, is_ok, length, map, slice_get, slice_set};
 ghost use Rattle.mm_types.specs.declared.moves.Move.TheVariants as move;
-ghost use Rattle.mm_life.specs.{record_at, is_read, is_write, is_empty, taken_for_read, IsLegal};
-ghost use Rattle.mm_blocks.specs.{WasRead};
+ghost use Rattle.mm_move_rules.specs.{record_at, is_read, is_write, is_empty, taken_for_read, IsLegal};
+ghost use Rattle.mm_devices.specs.{WasRead};
 ghost use Rattle.mm_ram.specs.{page_at};
-ghost use Rattle.mm_frames.specs.{IsDirty, has_block};
-ghost use Rattle.mm_flight.specs.{ended};
+ghost use Rattle.mm_pfn_database.specs.{IsDirty, has_block};
+ghost use Rattle.mm_requests.specs.{ended};
 ghost use Rattle.mm_parts.specs.{parts_after, own_after, own_ended, front_or, front_for_read, end_of_read, write_end, write_target, CanBegin};
 ghost use Rattle.mm_parts.specs.{words_sent, CanSend, goes_to, lowest_free, slots_to};
-ghost use Rattle.mm_words.specs.Shown as tables;
+ghost use Rattle.mm_page_tables.specs.Shown as tables;
 ghost use Rattle.mm_slots.specs.{free_count};
 
 use crate::backings::{backing_of, give_back, home, target};
 use crate::parts::Parts;
 use crate::requests::{begin_request, end_request};
-use mm_blocks::Inject;
-use mm_frames::{Dirty, Frames};
+use mm_devices::Inject;
+use mm_pfn_database::{Dirty, Frames};
 use mm_slots::Slots;
 use mm_types::{Backing, Failed, Frame, Key, Stored};
-use mm_words::{Entry, Words};
+use mm_page_tables::{Entry, Words};
 
 /// The frame that a page is read into is taken: the first free one, or where none is free the first
 /// zeroed one.

@@ -1,12 +1,12 @@
 ghost use Rattle.std.specs.Prelude.{◌≡◌, ◌<◌, Some, None, true, false, length, ◌+◌, ◌==◌, ℕ, option_map, slice_set};
-ghost use Rattle.mm_laws.specs.{times};
-ghost use Rattle.mm_flight.specs.{is_in, nth_oldest, place_in};
+ghost use Rattle.mm_move_laws.specs.{times};
+ghost use Rattle.mm_requests.specs.{is_in, nth_oldest, place_in};
 ghost use Rattle.mm_parts.specs.{requests, own_is, is_own_line, own_after, own_ended, flight_begun, flight_ended, waits_of};
-ghost use Rattle.mm_life.specs.{record_at, is_read, changed, has_depth, Idle, ForFrame, wait_of as walked_wait};
-ghost use Rattle.mm_flight.specs.declared.flights.Waiting.TheVariants as waiting;
+ghost use Rattle.mm_move_rules.specs.{record_at, is_read, changed, has_depth, Idle, ForFrame, wait_of as walked_wait};
+ghost use Rattle.mm_requests.specs.declared.flights.Waiting.TheVariants as waiting;
 
 use crate::parts::Parts;
-use mm_flight::Flight;
+use mm_requests::Flight;
 use mm_types::{Frame, LineKind, Tid, Wait};
 
 /// A request begins: the line's own in a plain access and in a call, else one in flight.

@@ -1,6 +1,6 @@
 ghost use Rattle.std.specs.Prelude.{◌≡◌, ◌≢◌, ℕ, List, ◌+◌, ◌<◌, ◌≤◌, length, replicate, Some, None, IfOk, OnOk, OnErr, IsSome, is_ok, map, slice_get, slice_set};
 ghost use Rattle.mm_ram.specs.declared.contents.Contents.TheVariants as contains;
-ghost use Rattle.mm_blocks.specs.{WasRead};
+ghost use Rattle.mm_devices.specs.{WasRead};
 ghost use Rattle.mm_ram.specs.Frames.{ArePlaces, has_bytes, is_filled, shown};
 ghost use Rattle.mm_ram.specs.Places.{IsFilled};
 ghost use Rattle.mm_ram.specs.Ram.{page_at, bytes_of, bytes_from, overwritten, with_page, zero_page};
@@ -8,7 +8,7 @@ ghost use Rattle.mm_types.specs.{page_size};
 
 use crate::Contents;
 use crate::cells::{Base, Cells, Deed, allocate, deallocate};
-use mm_blocks::Inject;
+use mm_devices::Inject;
 use mm_types::{Failed, Frame, NoMemory};
 use std::alloc::Global;
 use std::marker::Model;

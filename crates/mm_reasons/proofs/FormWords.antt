@@ -4,7 +4,7 @@ use Rattle.std.specs.List.{list_any}
 use Rattle.std.specs.Str.{bytes_eq}
 use Rattle.std.proofs.lemmas.Slice.Eq.{bytes_eq-Decides}
 use Rattle.mm_types.specs.{Text}
-use Rattle.mm_forms.specs.{Form, IsNamed, SaysNone, is_dashed}
+use Rattle.mm_arguments.specs.{Form, IsNamed, SaysNone, is_dashed}
 use Rattle.mm_reasons.specs.declared.forms.Form.TheVariants as form
 use Rattle.mm_reasons.specs.{form_named, form_of}
 

@@ -1,7 +1,7 @@
 ghost use Rattle.std.specs.Prelude.{◌≡◌, IfOk, map, string_bytes};
 ghost use Rattle.mm_reasons.specs.Forms.{form_named, form_of};
 
-use mm_forms::{Form as Named, read_words};
+use mm_arguments::{Form as Named, read_words};
 use mm_script::is_text;
 use mm_types::NoMemory;
 use std::alloc::Global;

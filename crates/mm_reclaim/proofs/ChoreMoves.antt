@@ -2,11 +2,11 @@
 use Rattle.std.proofs.Common.{◌≡◌, ℕ, suc, ◌+◌, ◌-◌, ◌<◌, ◌≤◌, true, false, List, [], ◌∷◌, ◌++◌, refl, sym, ap, ◌∙◌, subst, append_assoc, arith, zero, Bool, Option, Some, None, length-append}
 use Rattle.std.proofs.lemmas.List.{append-nil}
 use Rattle.mm_types.specs.{Move, Frame, Place, Record, Pid, Vpn}
-use Rattle.mm_life.specs.{FrameLife, is_empty, is_first, rest, IsLegal, is_zeroer, is_touch, frame_of, clearings, set_of, is_above_min, Ages, may_go}
-use Rattle.mm_life.specs.{IsOldest, IsVictim, ResidentSet, record_at, same_place, trims, may_unmap, after_move, after_unmap_at, TrimMove, spare_of}
-use Rattle.mm_life.specs.{Walk, Through, walked, walked_all}
-use Rattle.mm_moving.specs.{StateOf, moved, DoesMoves, Made, StateHolds, walk_of}
-use Rattle.mm_moving.proofs.{does_nothing, does_then, does_one, walked_here}
+use Rattle.mm_move_rules.specs.{FrameLife, is_empty, is_first, rest, IsLegal, is_zeroer, is_touch, frame_of, clearings, set_of, is_above_min, Ages, may_go}
+use Rattle.mm_move_rules.specs.{IsOldest, IsVictim, ResidentSet, record_at, same_place, trims, may_unmap, after_move, after_unmap_at, TrimMove, spare_of}
+use Rattle.mm_move_rules.specs.{Walk, Through, walked, walked_all}
+use Rattle.mm_state_calls.specs.{StateOf, moved, DoesMoves, Made, StateHolds, walk_of}
+use Rattle.mm_state_calls.proofs.{does_nothing, does_then, does_one, walked_here}
 use Rattle.mm_reclaim.specs.{Rounds, RoundsTo, NoneIn, TrimsOne, UnmapsOldest, Trimmed, TrimsTo}
 use Rattle.std.specs.Prelude.{◌&&◌, ◌||◌, map, take, MatchOption, is_some, not, ◌==◌, option_map, unwrap_or}
 use Rattle.std.specs.Cmp.{unsigned_Decides}
@@ -16,12 +16,12 @@ use Rattle.mm_types.specs.declared.moves.Move.TheVariants as move
 use Rattle.mm_parts.specs.{front}
 use Rattle.std.proofs.Math.Logic.{∥∥₁_elim}
 use Rattle.std.proofs.Props.{props}
-use Rattle.mm_words.specs.{place_from}
-use Rattle.mm_laws.proofs.{reached_sound, in_range, same_place-self}
+use Rattle.mm_page_tables.specs.{place_from}
+use Rattle.mm_move_laws.proofs.{reached_sound, in_range, same_place-self}
 use Rattle.mm_frame_laws.specs.{NoneMayGo, BestBelow, takes_over, IsNextPage, NoPageFollows}
 use Rattle.mm_frame_laws.proofs.{best_kept, best_victim, best_none, best_begins, best_same, best_now, goes_valid, next_oldest, all_go, sized}
-use Rattle.mm_laws.specs.{is_of, residents, one_if, tally}
-use Rattle.mm_laws.specs.Sound.{Sound}
+use Rattle.mm_move_laws.specs.{is_of, residents, one_if, tally}
+use Rattle.mm_move_laws.specs.Sound.{Sound}
 use Rattle.mm_types.proofs.{one_only_if}
 
 -- ---- the moves of a chore, one after another

@@ -5,11 +5,11 @@ use Rattle.std.specs.Cmp.{unsigned_Decides}
 use Rattle.std.proofs.lemmas.Bool.{or_left, or_right}
 use Rattle.mm_types.specs.{IsMachine, Frame, Place, Stored, Move, MachineOf, Record}
 use Rattle.mm_types.specs.declared.moves.Move.TheVariants as move
-use Rattle.mm_life.specs.{record_at, is_on, without, FrameLife, IsLegal, is_access, is_thread, is_short, after_move, Replays, can_be_written}
-use Rattle.mm_life.specs.{after_unmap_at, walked_all, IsVictim, may_go, is_unpinned, is_frame}
-use Rattle.mm_laws.specs.{one_if, times, at_end_if, ReachedByMoves, valid_places}
-use Rattle.mm_laws.specs.Sound.{Sound}
-use Rattle.mm_laws.proofs.{tally-append, times_on, reached_sound, kept_along, in_range, has_shares, modified_frame, reached_along, reached_next}
+use Rattle.mm_move_rules.specs.{record_at, is_on, without, FrameLife, IsLegal, is_access, is_thread, is_short, after_move, Replays, can_be_written}
+use Rattle.mm_move_rules.specs.{after_unmap_at, walked_all, IsVictim, may_go, is_unpinned, is_frame}
+use Rattle.mm_move_laws.specs.{one_if, times, at_end_if, ReachedByMoves, valid_places}
+use Rattle.mm_move_laws.specs.Sound.{Sound}
+use Rattle.mm_move_laws.proofs.{tally-append, times_on, reached_sound, kept_along, in_range, has_shares, modified_frame, reached_along, reached_next}
 use Rattle.mm_frame_laws.specs.{IsWithinDepth, list_in_search, is_last, Unmapped, after_failed, put_last, failed_write, lost_in, Walking}
 use Rattle.mm_frame_laws.specs.{first_passing, is_untried, next_try, NoneMayGo, Writable}
 use Rattle.mm_frame_laws.proofs.{unmapped, failed, walk_begins as none_walked, walk_on, walk_passes_all, walk_fails, writes_same, writers_same}
@@ -21,11 +21,11 @@ use Rattle.mm_reclaim.specs.{TookVictim, Walks}
 use Rattle.mm_reclaim.proofs.Writing.{FirstOf, first_of, front_behind, none_passes}
 use Rattle.std.proofs.Math.Logic.{∥∥₁_elim, ∥∥₁_map}
 use Rattle.std.proofs.Props.{props}
-use Rattle.mm_moving.specs.{StateOf, Made, moved, StateHolds, Searched, walk_of}
+use Rattle.mm_state_calls.specs.{StateOf, Made, moved, StateHolds, Searched, walk_of}
 use Rattle.mm_reclaim.specs.Seeking.{Seeking}
 use Rattle.mm_reclaim.proofs.Trying.{Target, Stays, begun_then, moved_called, seeks_unmapped, unmapped_found, starves, target_of, failed_on, wrote_on, two_life}
 use Rattle.std.proofs.Math.Bool.{Bool-set}
-use Rattle.mm_moving.proofs.{does_nothing}
+use Rattle.mm_state_calls.proofs.{does_nothing}
 
 -- ---- A search in its two phases, over the replay alone: the walk over the modified list, and the turns
 

@@ -5,29 +5,29 @@ use Rattle.std.proofs.lemmas.Bool.{eqb-true}
 use Rattle.mm_types.specs.{Backing, Frame, Place, Stored, Move, LineKind, MachineOf, Record, Direction}
 use Rattle.mm_types.specs.declared.frames.Backing.TheVariants as backing
 use Rattle.mm_types.specs.declared.moves.Move.TheVariants as move
-use Rattle.mm_life.specs.{record_at, is_on, FrameLife, is_short, is_access, is_call, can_be_written, Walk, Through, walked_all, is_wrote_move}
-use Rattle.mm_life.specs.{is_read_move, SearchMove, writable_in, next_writable, Starved, IsVictim, is_frame, is_unpinned, without, after_move}
+use Rattle.mm_move_rules.specs.{record_at, is_on, FrameLife, is_short, is_access, is_call, can_be_written, Walk, Through, walked_all, is_wrote_move}
+use Rattle.mm_move_rules.specs.{is_read_move, SearchMove, writable_in, next_writable, Starved, IsVictim, is_frame, is_unpinned, without, after_move}
 use Rattle.mm_types.proofs.{same_number, not_true}
-use Rattle.mm_pages.proofs.{through_then, walked_then}
-use Rattle.mm_pages.specs.Told.{Told}
+use Rattle.mm_store.proofs.{through_then, walked_then}
+use Rattle.mm_store.specs.Told.{Told}
 use Rattle.mm_frame_laws.specs.{NoneMayGo, lost_in, is_lost_of, failed_write, first_passing, is_untried, next_try, backing_to, after_written}
 use Rattle.mm_frame_laws.specs.{after_failed, put_last}
 use Rattle.mm_frame_laws.proofs.{any_append, or_none, write_record, failed, written_found}
 use Rattle.mm_parts.specs.{write_end, own_after, own_ended}
-use Rattle.mm_moving.specs.{StateOf, Made, DeviceCalled, moved_with_call, moved, backing_of_frame, SomeFault, StateHolds, DoesMoves, walk_of}
-use Rattle.mm_moving.specs.{IsFlightOf, Searched}
-use Rattle.mm_moving.proofs.{does_nothing, does_one, does_two, does_then, count-append, walked_here}
+use Rattle.mm_state_calls.specs.{StateOf, Made, DeviceCalled, moved_with_call, moved, backing_of_frame, SomeFault, StateHolds, DoesMoves, walk_of}
+use Rattle.mm_state_calls.specs.{IsFlightOf, Searched}
+use Rattle.mm_state_calls.proofs.{does_nothing, does_one, does_two, does_then, count-append, walked_here}
 use Rattle.mm_reclaim.specs.{IsUnderWay, Tries, Seeks}
 use Rattle.std.proofs.Math.Logic.{∥∥₁_elim}
 use Rattle.std.proofs.Props.{props}
 use Rattle.mm_types.specs.declared.devices.Direction.TheVariants as way
 use Rattle.mm_types.specs.declared.moves.Stored.TheVariants as stored
-use Rattle.mm_blocks.specs.{DeviceOf, CallFailed}
-use Rattle.mm_laws.specs.{ReachedByMoves, is_backed, times}
-use Rattle.mm_laws.proofs.{reached_sound, modified_frame, begun_ended, times_on}
-use Rattle.mm_blocks.proofs.{serves_failed, failed_later, all_served_later}
+use Rattle.mm_devices.specs.{DeviceOf, CallFailed}
+use Rattle.mm_move_laws.specs.{ReachedByMoves, is_backed, times}
+use Rattle.mm_move_laws.proofs.{reached_sound, modified_frame, begun_ended, times_on}
+use Rattle.mm_devices.proofs.{serves_failed, failed_later, all_served_later}
 use Rattle.std.proofs.Math.Bool.{Bool-set}
-use Rattle.mm_pages.specs.{with_write}
+use Rattle.mm_store.specs.{with_write}
 
 -- ---- the steps of a search: what each adds to its moves
 

@@ -9,21 +9,21 @@ use Rattle.mm_types.specs.{Backing, Frame, Stored, Record, LineKind, Move}
 use Rattle.mm_types.specs.declared.frames.Backing.TheVariants as backing
 use Rattle.mm_types.specs.declared.moves.Stored.TheVariants as stored
 use Rattle.mm_types.specs.declared.moves.Move.TheVariants as move
-use Rattle.mm_life.specs.{record_at, is_on, is_idle, has_request, FrameLife, IsLegal, can_be_written, without, owner_is, is_writer, has_depth}
-use Rattle.mm_life.specs.{after_move, frame_of, lowest_free as lowest_from, target, writes_begun}
-use Rattle.mm_laws.specs.{block_of, one_if, times, IsLowest}
-use Rattle.mm_laws.specs.Sound.{Sound}
-use Rattle.mm_laws.proofs.{reached_sound, modified_frame, lowest_is, free_counted, times_on, without_none, without_append, without_self, tally-append}
+use Rattle.mm_move_rules.specs.{record_at, is_on, is_idle, has_request, FrameLife, IsLegal, can_be_written, without, owner_is, is_writer, has_depth}
+use Rattle.mm_move_rules.specs.{after_move, frame_of, lowest_free as lowest_from, target, writes_begun}
+use Rattle.mm_move_laws.specs.{block_of, one_if, times, IsLowest}
+use Rattle.mm_move_laws.specs.Sound.{Sound}
+use Rattle.mm_move_laws.proofs.{reached_sound, modified_frame, lowest_is, free_counted, times_on, without_none, without_append, without_self, tally-append}
 use Rattle.mm_slots.specs.{IsLowest as LowestSlot}
 use Rattle.mm_frame_laws.specs.{Writable, first_passing}
 use Rattle.mm_frame_laws.proofs.{on_times, which_writes, store_there, wrote_legal, slot_parts, slot_backing, block_is, on_append, store_in_writer}
 use Rattle.mm_frame_laws.proofs.{write_others}
 use Rattle.mm_parts.specs.{goes_to, lowest_free, write_target, own_after}
 use Rattle.mm_parts.proofs.{lowest_is as lowest_number}
-use Rattle.mm_moving.specs.{StateOf, Made, StateHolds, moved}
+use Rattle.mm_state_calls.specs.{StateOf, Made, StateHolds, moved}
 use Rattle.mm_reclaim.specs.{IsUnderWay, writable_modified, Rounds, writings}
 use Rattle.std.specs.Cmp.{unsigned_Decides}
-use Rattle.mm_frames.specs.{has_block, modified_with_block}
+use Rattle.mm_pfn_database.specs.{has_block, modified_with_block}
 use Rattle.std.specs.List.{list_any}
 use Rattle.mm_types.specs.declared.moves.LineKind.TheVariants as kind
 use Rattle.mm_types.proofs.{and_false}

@@ -2,8 +2,8 @@
 -- Profile, "Which frame moves, and when".
 use Rattle.std.specs.Prelude.{◌≡◌, ◌<◌, ◌-◌, ◌+◌, ◌*◌, ℕ, true, false, is_some, Option, Some, None}
 use Rattle.mm_types.specs.{Frame, Pid, Vpn, Place}
-use Rattle.mm_life.specs.{FrameLife, Ages, may_go}
-use Rattle.mm_words.specs.{place_from}
+use Rattle.mm_move_rules.specs.{FrameLife, Ages, may_go}
+use Rattle.mm_page_tables.specs.{place_from}
 
 -- no page of the process may go
 abbrev pub NoneIn : FrameLife → Option Frame → ℕ → Type 0

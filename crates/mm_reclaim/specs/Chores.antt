@@ -3,8 +3,8 @@
 use Rattle.std.specs.Prelude.{◌≡◌, ◌+◌, ◌-◌, ℕ, suc, Bool, true, false, List, [], ◌∷◌, ◌++◌, length, min, None}
 use Rattle.mm_types.specs.{Move, Pid, Place}
 use Rattle.mm_types.specs.declared.moves.Move.TheVariants as move
-use Rattle.mm_life.specs.{FrameLife, set_of, is_above_min, TrimMove, spare_of, writes_begun, IsOldest, Through}
-use Rattle.mm_moving.specs.{StateOf, Made, moved, DoesMoves, walk_of}
+use Rattle.mm_move_rules.specs.{FrameLife, set_of, is_above_min, TrimMove, spare_of, writes_begun, IsOldest, Through}
+use Rattle.mm_state_calls.specs.{StateOf, Made, moved, DoesMoves, walk_of}
 
 -- ---- places of a process are unmapped
 

@@ -3,8 +3,8 @@
 use Rattle.std.specs.Prelude.{◌≡◌, Bool, true, false}
 use Rattle.mm_types.specs.{Frame, Place}
 use Rattle.mm_types.specs.declared.moves.Move.TheVariants as move
-use Rattle.mm_life.specs.{is_on, is_empty, FrameLife, is_short}
-use Rattle.mm_moving.specs.{StateOf, Made, moved}
+use Rattle.mm_move_rules.specs.{is_on, is_empty, FrameLife, is_short}
+use Rattle.mm_state_calls.specs.{StateOf, Made, moved}
 use Rattle.mm_reclaim.specs.declared.searching.Found.{Found}
 use Rattle.mm_reclaim.specs.declared.searching.Found.TheVariants as found
 use Rattle.mm_reclaim.specs.Seeking.{Tried}

@@ -3,12 +3,12 @@
 use Rattle.std.specs.Prelude.{◌≡◌, ◌≤◌, ◌<◌, ◌+◌, ℕ, Bool, true, false, List, length, count_by, filter, Option, Some, None}
 use Rattle.mm_types.specs.{Frame, Stored, Move}
 use Rattle.mm_types.specs.declared.moves.Move.TheVariants as move
-use Rattle.mm_life.specs.{record_at, is_on, FrameLife, is_access, is_short, can_be_written, Through, walked_all, is_wrote_move, is_read_move}
-use Rattle.mm_life.specs.{SearchMove}
-use Rattle.mm_laws.specs.{ReachedByMoves}
+use Rattle.mm_move_rules.specs.{record_at, is_on, FrameLife, is_access, is_short, can_be_written, Through, walked_all, is_wrote_move, is_read_move}
+use Rattle.mm_move_rules.specs.{SearchMove}
+use Rattle.mm_move_laws.specs.{ReachedByMoves}
 use Rattle.mm_frame_laws.specs.{lost_in, Walking, Emptying}
 use Rattle.mm_parts.specs.{write_end}
-use Rattle.mm_moving.specs.{StateOf, Made, moved_with_call, SomeFault, DoesMoves, walk_of, IsFlightOf}
+use Rattle.mm_state_calls.specs.{StateOf, Made, moved_with_call, SomeFault, DoesMoves, walk_of, IsFlightOf}
 
 -- a plain access is under way, without a request of its own, and at most depth requests are in
 -- flight

@@ -1,11 +1,11 @@
 ghost use Rattle.std.specs.Prelude.{◌≡◌, ◌+◌, ℕ, true, false, Some, None, MatchOption};
 ghost use Rattle.std.specs.Option.{ForSome};
 ghost use Rattle.mm_types.specs.{Place};
-ghost use Rattle.mm_life.specs.{may_go as goes, IsOldest, IsVictim};
+ghost use Rattle.mm_move_rules.specs.{may_go as goes, IsOldest, IsVictim};
 ghost use Rattle.mm_frame_laws.specs.{NoneMayGo, takes_over as takes, BestBelow};
 ghost use Rattle.mm_reclaim.specs.{NoneIn};
 
-use mm_moving::Moving;
+use mm_state_calls::Moving;
 use mm_types::{Frame, Pid, Place, Vpn};
 
 /// Whether the page at a bound place may go: it is valid there, in a frame that is not pinned.

@@ -1,11 +1,11 @@
 ghost use Rattle.std.specs.Prelude.{◌≡◌, true};
 ghost use Rattle.mm_types.specs.declared.moves.LineKind.TheVariants as kind;
-ghost use Rattle.mm_life.specs.{clearings, writes_begun};
-ghost use Rattle.mm_moving.specs.{moved, DoesMoves};
+ghost use Rattle.mm_move_rules.specs.{clearings, writes_begun};
+ghost use Rattle.mm_state_calls.specs.{moved, DoesMoves};
 ghost use Rattle.mm_reclaim.specs.{TrimsOne, Trimmed, Rounds, writings};
 
 use crate::searching::first_writable;
-use mm_moving::Moving;
+use mm_state_calls::Moving;
 use mm_types::{Pid, Place};
 
 /// Unmaps the oldest page of an open process that has more than its minimum. Answers whether it

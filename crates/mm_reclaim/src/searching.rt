@@ -1,14 +1,14 @@
 ghost use Rattle.std.specs.Prelude.{◌≡◌, ◌≤◌, ◌<◌, ◌&&◌, ◌==◌, not, is_some, is_ok, IfOk, length, option_map, slice_get, true, false, Some, None};
 ghost use Rattle.std.specs.Bool.{OnTrue, OnFalse};
 ghost use Rattle.mm_types.specs.{Frame};
-ghost use Rattle.mm_life.specs.{record_at, is_on, has_request, is_access, is_short as lists_are_empty, may_go as goes};
-ghost use Rattle.mm_moving.specs.{Searched};
+ghost use Rattle.mm_move_rules.specs.{record_at, is_on, has_request, is_access, is_short as lists_are_empty, may_go as goes};
+ghost use Rattle.mm_state_calls.specs.{Searched};
 ghost use Rattle.mm_reclaim.specs.Seeking.{IsUnderWay, Seeking, writable_modified};
 ghost use Rattle.mm_reclaim.specs.Searching.{IsFirstList, TookVictim};
 
 use crate::choosing::victim;
 use crate::seeking::{try_frame, write_frame};
-use mm_moving::Moving;
+use mm_state_calls::Moving;
 use mm_types::{Frame, Place, Record, Request};
 
 /// No frame was found: a device write failed in the search, none succeeded, and no page may go but

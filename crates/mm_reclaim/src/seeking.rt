@@ -1,10 +1,10 @@
 ghost use Rattle.std.specs.Prelude.{◌≡◌, ◌||◌, ◌==◌, not, is_some, true};
-ghost use Rattle.mm_life.specs.{is_on, can_be_written as writable};
-ghost use Rattle.mm_laws.specs.{block_of};
+ghost use Rattle.mm_move_rules.specs.{is_on, can_be_written as writable};
+ghost use Rattle.mm_move_laws.specs.{block_of};
 ghost use Rattle.mm_frame_laws.specs.{Writable};
 ghost use Rattle.mm_reclaim.specs.{IsUnderWay, Tries, Tried};
 
-use mm_moving::Moving;
+use mm_state_calls::Moving;
 use mm_types::{Backing, Frame};
 
 /// Whether a page of that backing has a block, or a slot where so many are free.

@@ -6,7 +6,7 @@ use Rattle.std.specs.Cmp.{unsigned_Decides}
 use Rattle.mm_types.proofs.{same_or_not, differ}
 use Rattle.mm_types.specs.{MachineOf, Frame, Key, Place, Held, LineKind}
 use Rattle.mm_types.specs.declared.frames.Held.TheVariants as held
-use Rattle.mm_life.specs.{ResidentSet, FrameTable, changed, free_table, life_at}
+use Rattle.mm_move_rules.specs.{ResidentSet, FrameTable, changed, free_table, life_at}
 use Rattle.mm_replay.specs.{flagged}
 use Rattle.mm_replay.proofs.Outcomes.{filled_at}
 

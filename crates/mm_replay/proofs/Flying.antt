@@ -2,8 +2,8 @@
 use Rattle.std.proofs.Common.{◌≡◌, ℕ, zero, suc, ◌<◌, Bool, true, false, List, [], ◌∷◌, ◌++◌, length, get_or, set, map, Some, refl, sym, ap, ◌∙◌, inl, inr, arith, length-set, get_or-set_same, get_or-set_other}
 use Rattle.std.specs.Prelude.{slice_get}
 use Rattle.mm_types.proofs.{same_or_not}
-use Rattle.mm_lists.specs.{ListsOf, IsOnNone, list_at, number_at, with_list, without}
-use Rattle.mm_lists.proofs.{without_other, list_within, without_removes, push_found, push_keeps, push_new}
+use Rattle.mm_page_lists.specs.{ListsOf, IsOnNone, list_at, number_at, with_list, without}
+use Rattle.mm_page_lists.proofs.{without_other, list_within, without_removes, push_found, push_keeps, push_new}
 use Rattle.mm_replay.specs.{flight_of, AreLists, AreFlagged}
 
 module _ (v : ListsOf) (flags : List Bool) (f : ℕ) (a : AreFlagged v flags) where

@@ -3,9 +3,9 @@ use Rattle.std.proofs.Common.{◌≡◌, ℕ, zero, suc, ◌+◌, ◌<◌, List,
 use Rattle.std.specs.Prelude.{slice_get, slice_set}
 use Rattle.std.proofs.lemmas.List.{length-replicate, set-get_or}
 use Rattle.mm_types.specs.{Record}
-use Rattle.mm_life.specs.{blank, numbers_from}
-use Rattle.mm_life.proofs.{numbers_in, numbers_at, all_blank}
-use Rattle.mm_lists.specs.{ListsOf, AreApart, IsOnNone, IsOnOne, list_at, number_at, with_list}
+use Rattle.mm_move_rules.specs.{blank, numbers_from}
+use Rattle.mm_move_rules.proofs.{numbers_in, numbers_at, all_blank}
+use Rattle.mm_page_lists.specs.{ListsOf, AreApart, IsOnNone, IsOnOne, list_at, number_at, with_list}
 use Rattle.mm_replay.proofs.Outcomes.{filled_at}
 use Rattle.mm_replay.specs.{free_alone, no_lists, AreLists, belongs, is_owned, Kept}
 

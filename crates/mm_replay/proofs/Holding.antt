@@ -4,10 +4,10 @@ use Rattle.std.specs.Prelude.{◌&&◌, ◌==◌, is_some}
 use Rattle.std.proofs.lemmas.Bool.{eqb-true, and_parts}
 use Rattle.mm_types.specs.{Frame, Key, Place, Pid, Vpn, Area, Held}
 use Rattle.mm_types.specs.declared.numbers.Key.TheVariants.{Private, Shared}
-use Rattle.mm_life.specs.{changed, same_key, same_place, is_dead}
+use Rattle.mm_move_rules.specs.{changed, same_key, same_place, is_dead}
 use Rattle.mm_replay.specs.{Alive, Writes, Keeps, found, alive_at, Written, Stays, held_of, alive_paging, no_keys, no_paging, no_places}
 use Rattle.mm_replay.specs.declared.pairs.Pairs.{Pairs}
-use Rattle.mm_laws.proofs.{same_key-true}
+use Rattle.mm_move_laws.proofs.{same_key-true}
 use Rattle.mm_replay.proofs.Outcomes.{kept_at}
 
 -- ---- two tables of keys as one

@@ -10,7 +10,7 @@ use Rattle.mm_types.specs.declared.moves.LineKind.TheVariants as kind
 use Rattle.mm_types.specs.declared.moves.Stored.TheVariants as stored
 use Rattle.mm_types.specs.declared.moves.Move.TheVariants as move
 use Rattle.mm_text.proofs.{decimal_is, IsPlain, plain-digits, length-decimal}
-use Rattle.mm_life.specs.{move_onto, move_text, IsMove}
+use Rattle.mm_move_rules.specs.{move_onto, move_text, IsMove}
 use Rattle.mm_replay.specs.{read_text}
 use Rattle.mm_replay.proofs.ReadAgain.{read_text-onto, value_of}
 

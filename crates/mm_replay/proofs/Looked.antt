@@ -3,8 +3,8 @@ use Rattle.std.proofs.Common.{◌≡◌, ℕ, zero, suc, ◌+◌, ◌<◌, Bool,
 use Rattle.std.specs.Prelude.{option_map, slice_get, slice_set}
 use Rattle.std.proofs.lemmas.List.Sums.{count_by-le-length}
 use Rattle.mm_types.specs.{Frame, Record}
-use Rattle.mm_lists.specs.{ListsOf, number_at}
-use Rattle.mm_lists.proofs.{list_within}
+use Rattle.mm_page_lists.specs.{ListsOf, number_at}
+use Rattle.mm_page_lists.proofs.{list_within}
 use Rattle.mm_slots.specs.{free_count}
 use Rattle.mm_slots.proofs.{count_changed}
 use Rattle.mm_replay.specs.{Kept, table_of, frames_on, IsBehind, AreApartFrom, FrameList, frame}

@@ -5,7 +5,7 @@ use Rattle.std.proofs.lemmas.Bool.{lt-ltb, le-ltb, cases_lt, le-leb, and_from}
 use Rattle.std.proofs.lemmas.Nat.{mod_below}
 use Rattle.std.proofs.Math.Nat.{mod-eq_of_lt, pow-zero}
 use Rattle.mm_types.specs.{Text, glyph, decimal, decimal_onto}
-use Rattle.mm_moves.proofs.{step_last, step_more, step_none, below_power, onto_append}
+use Rattle.mm_log_writer.proofs.{step_last, step_more, step_none, below_power, onto_append}
 use Rattle.mm_replay.specs.{is_digit, number_from, below, led_by, read_number}
 
 abbrev pub next : Bool → (ℕ × Text) → (ℕ × Text) → ℕ × Text

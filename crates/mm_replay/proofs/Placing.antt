@@ -6,9 +6,9 @@ use Rattle.std.proofs.lemmas.Bool.{and_parts, cases_lt, not-true}
 use Rattle.std.proofs.lemmas.List.{get_or_past}
 use Rattle.mm_types.specs.{Key, Record}
 use Rattle.mm_types.proofs.{or_right, same_or_not, same_tests, differ}
-use Rattle.mm_life.specs.{blank, is_idle, has_request, is_read, is_first, is_empty, is_on, off_lists}
-use Rattle.mm_lists.specs.{ListsOf, IsOnOne, list_at, number_at, with_list, without}
-use Rattle.mm_lists.proofs.{without_other, without_removes, list-without, push_found, push_keeps, push_new}
+use Rattle.mm_move_rules.specs.{blank, is_idle, has_request, is_read, is_first, is_empty, is_on, off_lists}
+use Rattle.mm_page_lists.specs.{ListsOf, IsOnOne, list_at, number_at, with_list, without}
+use Rattle.mm_page_lists.proofs.{without_other, without_removes, list-without, push_found, push_keeps, push_new}
 use Rattle.mm_replay.specs.{AreLists, table_of, record_of, belongs, is_owned, is_changed_page, Kept, Off, IsEmptyFrame}
 use Rattle.mm_replay.specs.Sound.{Listed}
 

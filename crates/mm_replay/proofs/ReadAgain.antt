@@ -6,7 +6,7 @@ use Rattle.mm_types.specs.declared.numbers.Key.TheVariants.{Private, Shared}
 use Rattle.mm_types.specs.declared.moves.LineKind.TheVariants as kind
 use Rattle.mm_types.specs.declared.moves.Stored.TheVariants as stored
 use Rattle.mm_types.specs.declared.moves.Move.TheVariants as move
-use Rattle.mm_life.specs.{place_onto, key_onto, kind_onto, stored_onto, home_onto, move_onto, IsKey, IsPlace, IsKind, IsStored, IsBlock, IsMove}
+use Rattle.mm_move_rules.specs.{place_onto, key_onto, kind_onto, stored_onto, home_onto, move_onto, IsKey, IsPlace, IsKind, IsStored, IsBlock, IsMove}
 use Rattle.mm_replay.specs.{pid, read_pid, read_place, read_key, read_kind, home_behind, stored_behind, read_text}
 use Rattle.mm_replay.proofs.Numbers.{ends_number, read_number-decimal}
 

@@ -5,7 +5,7 @@ use Rattle.std.specs.Cmp.{unsigned_Decides}
 use Rattle.std.proofs.lemmas.List.{set-set, set_comm, set-get_or, set-append_left}
 use Rattle.std.proofs.lemmas.Option.{get_or_from_slice_get, slice_get-get_or}
 use Rattle.mm_types.proofs.{same_or_not, get_set_same, get_set_other, get_within, differ}
-use Rattle.mm_life.specs.{is_lowest}
+use Rattle.mm_move_rules.specs.{is_lowest}
 use Rattle.mm_slots.specs.{free_count, IsLowest}
 use Rattle.mm_slots.proofs.{counted_some}
 use Rattle.mm_replay.specs.{IsLowestIn, without_slot, AreApartFrom}

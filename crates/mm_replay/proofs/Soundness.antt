@@ -5,10 +5,10 @@ use Rattle.std.proofs.lemmas.Bool.{and_parts, or_cases, not-true}
 use Rattle.mm_types.specs.{Move, Stored}
 use Rattle.mm_types.specs.declared.moves.Stored.TheVariants as stored
 use Rattle.mm_types.proofs.{or_left}
-use Rattle.mm_life.specs.{FrameTable, record_at, is_first, is_empty, has_request, FrameLife, IsLegal, is_legal_write, after_move}
-use Rattle.mm_laws.specs.{one_if, times, ReachedByMoves}
-use Rattle.mm_laws.proofs.{reached_by, kept_inside, owner_passes, times_on}
-use Rattle.mm_laws.proofs.Facts.{Facts}
+use Rattle.mm_move_rules.specs.{FrameTable, record_at, is_first, is_empty, has_request, FrameLife, IsLegal, is_legal_write, after_move}
+use Rattle.mm_move_laws.specs.{one_if, times, ReachedByMoves}
+use Rattle.mm_move_laws.proofs.{reached_by, kept_inside, owner_passes, times_on}
+use Rattle.mm_move_laws.proofs.Facts.{Facts}
 use Rattle.mm_replay.specs.{IsEmptyFrame, SoundReplay}
 use Rattle.mm_replay.specs.Sound.{Listed}
 use Rattle.mm_replay.proofs.Placing.{idle_quiet, on_there}

@@ -2,13 +2,13 @@
 use Rattle.std.proofs.Common.{◌≡◌, ◌==◌, ◌⊎◌, length, ℕ, ◌+◌, ◌-◌, ◌*◌, ◌%◌, ◌^◌, ◌≤◌, ◌<◌, Bool, true, false, cond, [], ◌∷◌, ◌++◌, codes, Option, Some, None, refl, sym, ap, ◌∙◌, subst, inl, inr, arith, append_assoc, nat_le, nat_lt}
 use Rattle.std.proofs.lemmas.Bool.{lt-ltb, le-ltb, cases_lt, lt-leb, and_left, and_right, eqb-true, ltb-true}
 use Rattle.mm_types.specs.{Text, glyph, decimal, Pid, Frame, Key}
-use Rattle.mm_life.specs.{numbered, place_onto, key_onto, kind_onto, move_onto, IsKey, IsPlace, IsKind, IsMove}
+use Rattle.mm_move_rules.specs.{numbered, place_onto, key_onto, kind_onto, move_onto, IsKey, IsPlace, IsKind, IsMove}
 use Rattle.mm_replay.specs.{reading, past, past_or, strip, number_from, below, is_digit, led_by, read_number, number_behind, home_behind}
 use Rattle.mm_replay.specs.{stored_behind, read_pid, read_place, read_private, read_shared, read_key, read_frame, read_machine, read_process}
 use Rattle.mm_replay.specs.{read_plain_kind, read_kind, read_at, read_end, read_taking, read_text}
 use Rattle.mm_replay.proofs.Numbers.{next, short, led, led_more, glyph_is, number_digit, number_grows, is_digit-true}
 use Rattle.mm_replay.proofs.ReadAgain.{small_or, read_key-onto, read_text-onto, value_of, rest_of}
-use Rattle.mm_moves.proofs.{decimal_one, decimal_more}
+use Rattle.mm_log_writer.proofs.{decimal_one, decimal_more}
 
 abbrev Told : {A : Type 0} → (A → Text → Text) → (A → Type 0) → Text → Option (A × Text) → Type 0
 Told onto Is text None = Unit {0}

@@ -1,6 +1,6 @@
 -- The frames with a request, as a list over the frames.
 use Rattle.std.specs.Prelude.{◌≡◌, ℕ, Bool, true, false, List, length, Some, slice_get, slice_index_or}
-use Rattle.mm_lists.specs.{ListsOf, IsOnOne, list_at}
+use Rattle.mm_page_lists.specs.{ListsOf, IsOnOne, list_at}
 use Rattle.mm_replay.specs.Listed.{AreLists}
 
 -- the number of frames, and those with a request, oldest first

@@ -3,7 +3,7 @@ use Rattle.std.specs.Prelude.{◌≡◌, Bool, false, Option, Some, None}
 use Rattle.mm_types.specs.{Frame, Key, Place, Held}
 use Rattle.mm_types.specs.declared.numbers.Key.TheVariants.{Private, Shared}
 use Rattle.mm_types.specs.declared.frames.Held.TheVariants as held
-use Rattle.mm_life.specs.{changed, same_key}
+use Rattle.mm_move_rules.specs.{changed, same_key}
 use Rattle.mm_replay.specs.declared.pairs.Pairs.{Pairs}
 use Rattle.mm_replay.specs.declared.holdings.Alive.{Alive}
 use Rattle.mm_replay.specs.declared.holdings.Keys.{Keys}

@@ -1,8 +1,8 @@
 -- The list that each frame is on, by its record: no frame is loose.
 use Rattle.std.specs.Prelude.{◌≡◌, ◌≢◌, ℕ, zero, suc, ◌<◌, nat_lt, not, Bool, true, ◌&&◌, ◌||◌, ◌==◌, if◌then◌else◌, is_some, List, [], ◌∷◌, ◌++◌, length, replicate, Option, Some, None, slice_index_or}
 use Rattle.mm_types.specs.{Record}
-use Rattle.mm_life.specs.{FrameTable, blank, is_idle, is_read, rest}
-use Rattle.mm_lists.specs.{ListsOf, AreApart, IsOnNone, list_at, number_at}
+use Rattle.mm_move_rules.specs.{FrameTable, blank, is_idle, is_read, rest}
+use Rattle.mm_page_lists.specs.{ListsOf, AreApart, IsOnNone, list_at, number_at}
 
 -- zeroed, free, standby, modified are lists 0 to 3; one of them alone has numbers, or none has
 abbrev pub free_alone : List ℕ → List (List ℕ)

@@ -1,6 +1,6 @@
 -- The records and lists that the frame database of a running check shows.
 use Rattle.std.specs.Prelude.{ℕ}
-use Rattle.mm_life.specs.{FrameTable}
+use Rattle.mm_move_rules.specs.{FrameTable}
 use Rattle.mm_replay.specs.declared.listings.Listing.{Listing}
 use Rattle.mm_replay.specs.Listed.{table_of, Kept, Off}
 

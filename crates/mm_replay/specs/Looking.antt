@@ -2,7 +2,7 @@
 -- Profile, "Logs of moves".
 use Rattle.std.specs.Prelude.{◌≡◌, ℕ, ◌+◌, List, Option, Some, None, option_map, slice_get}
 use Rattle.mm_types.specs.{Frame}
-use Rattle.mm_life.specs.{FrameTable}
+use Rattle.mm_move_rules.specs.{FrameTable}
 use Rattle.mm_replay.specs.declared.four_lists.FrameList.{FrameList}
 use Rattle.mm_replay.specs.declared.four_lists.FrameList.TheVariants as list
 use Rattle.mm_replay.specs.Sound.{frame}

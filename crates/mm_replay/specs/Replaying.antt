@@ -1,7 +1,7 @@
 -- The state of a replay, as the running check has it.
 -- Profile, "Logs of moves".
 use Rattle.std.specs.Prelude.{ℕ, Bool, false, List, slice_index_or}
-use Rattle.mm_life.specs.{FrameLife}
+use Rattle.mm_move_rules.specs.{FrameLife}
 use Rattle.mm_replay.specs.declared.states.State.{State}
 use Rattle.mm_replay.specs.Holdings.{stands_in, paging_in, frames_in}
 

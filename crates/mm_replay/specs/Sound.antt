@@ -3,7 +3,7 @@
 use Rattle.std.specs.Prelude.{◌≡◌, ℕ, ◌<◌, ◌≤◌, true, false, List, length, Option, Some, None, slice_get}
 use Rattle.mm_types.specs.{Frame, Key, Place, Record, Held}
 use Rattle.mm_types.specs.declared.frames.Held.TheVariants as held
-use Rattle.mm_life.specs.{FrameTable, record_at, is_first, is_on, is_idle, has_request, FrameLife}
+use Rattle.mm_move_rules.specs.{FrameTable, record_at, is_first, is_on, is_idle, has_request, FrameLife}
 use Rattle.mm_replay.specs.Listed.{record_of, is_owned}
 
 abbrev pub frame : ℕ → Frame

@@ -1,14 +1,14 @@
 ghost use Rattle.std.specs.Prelude.{◌≡◌, ◌+◌, ◌-◌, ◌*◌, ◌<◌, true, false};
-ghost use Rattle.mm_life.specs.{is_call, is_io, is_access, is_writer, is_touch, touches, unbinds, trims, is_valid_machine, is_legal_kind, has_depth};
-ghost use Rattle.mm_life.specs.{owner_is, shows_shared, may_copy, is_unmapped, fits_place, is_short, may_unmap, may_write_block, is_legal_add};
-ghost use Rattle.mm_life.specs.{is_legal_map, is_legal_soil, is_legal_write, is_legal, is_shared, is_live, is_dead, set_of, set_in};
+ghost use Rattle.mm_move_rules.specs.{is_call, is_io, is_access, is_writer, is_touch, touches, unbinds, trims, is_valid_machine, is_legal_kind, has_depth};
+ghost use Rattle.mm_move_rules.specs.{owner_is, shows_shared, may_copy, is_unmapped, fits_place, is_short, may_unmap, may_write_block, is_legal_add};
+ghost use Rattle.mm_move_rules.specs.{is_legal_map, is_legal_soil, is_legal_write, is_legal, is_shared, is_live, is_dead, set_of, set_in};
 ghost use Rattle.mm_types.specs.declared.moves.Move.TheVariants as move;
 
 use crate::four_lists::FrameList;
 use crate::records::{has_request, is_again, is_read, is_write};
 use crate::states::State;
 use crate::values::flag_at;
-use mm_life::ResidentSet;
+use mm_move_rules::ResidentSet;
 use mm_types::{Backing, Block, Frame, Held, Key, LineKind, Move, Pid, Place, Record, Stored};
 
 // ---- kinds of lines

@@ -1,8 +1,8 @@
 ghost use Rattle.std.specs.Prelude.{◌≡◌, ℕ, ◌+◌, ◌++◌, ◌<◌, ◌∷◌, [], IfOk, Some, drop, length, map, replicate};
-ghost use Rattle.mm_lists.specs.{IsOnOne, IsOnNone, list_at, number_at, with_list, without};
+ghost use Rattle.mm_page_lists.specs.{IsOnOne, IsOnNone, list_at, number_at, with_list, without};
 ghost use Rattle.mm_replay.specs.Listed.{AreLists, no_lists};
 
-use mm_lists::Lists;
+use mm_page_lists::Lists;
 use mm_types::NoMemory;
 use std::alloc::Global;
 use std::marker::Model;
@@ -36,7 +36,7 @@ pub(crate) struct FrameLists<const COUNT: u32> {
 }
 
 impl<const COUNT: u32> Model for FrameLists<COUNT> {
-    ghost use Rattle.mm_lists.specs.{ListsOf};
+    ghost use Rattle.mm_page_lists.specs.{ListsOf};
     ghost use Rattle.mm_replay.specs.Listed.{AreLists, lists_of};
 
     ghost Value = { ListsOf };

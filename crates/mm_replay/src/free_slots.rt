@@ -1,5 +1,5 @@
 ghost use Rattle.std.specs.Prelude.{◌≡◌, ◌+◌, ◌-◌, ◌<◌, ◌≤◌, ◌^◌, true, false, [], ◌++◌, length, replicate, OnOk, OnErr, IfOk, Some, slice_get, slice_index_or, slice_set};
-ghost use Rattle.mm_life.specs.{is_lowest, freed};
+ghost use Rattle.mm_move_rules.specs.{is_lowest, freed};
 ghost use Rattle.mm_slots.specs.{free_count};
 ghost use Rattle.mm_replay.specs.Slotted.{no_slots, IsLowestIn, without_slot};
 

@@ -1,6 +1,6 @@
 ghost use Rattle.std.specs.Prelude.{◌≡◌, IsSome, false, OnOk, OnErr, IfNone, Some, None};
 ghost use Rattle.mm_types.specs.declared.frames.Held.TheVariants as held;
-ghost use Rattle.mm_life.specs.{changed, same_key, same_place, is_dead};
+ghost use Rattle.mm_move_rules.specs.{changed, same_key, same_place, is_dead};
 
 use crate::pairs::Pairs;
 use mm_types::{Frame, Held, Key, NoMemory, Place};

@@ -1,5 +1,5 @@
 ghost use Rattle.std.specs.Prelude.{◌≡◌, ℕ, ◌+◌, ◌++◌, ◌<◌, ◌∷◌, [], IfOk, Some, None, length, slice_get};
-ghost use Rattle.mm_life.specs.{without};
+ghost use Rattle.mm_move_rules.specs.{without};
 
 use crate::four_lists::FrameLists;
 use crate::values::{flag_at, flags, set_at};

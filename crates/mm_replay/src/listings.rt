@@ -1,6 +1,6 @@
 ghost use Rattle.std.specs.Prelude.{◌≡◌, ◌<◌, [], true, false, is_some, IfOk, Some, None};
-ghost use Rattle.mm_life.specs.{record_at, is_idle, off_lists, with_record, settled, to_free, free_table, numbers_from};
-ghost use Rattle.mm_lists.specs.{number_at};
+ghost use Rattle.mm_move_rules.specs.{record_at, is_idle, off_lists, with_record, settled, to_free, free_table, numbers_from};
+ghost use Rattle.mm_page_lists.specs.{number_at};
 ghost use Rattle.mm_replay.specs.Listed.{AreLists, free_alone, belongs, is_owned, first_taken, put_behind};
 
 use crate::four_lists::{FREE, FrameLists, MODIFIED, STANDBY};

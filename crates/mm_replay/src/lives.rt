@@ -1,7 +1,7 @@
 ghost use Rattle.std.specs.Prelude.{◌≡◌, ◌↔◌, false, OnOk, OnErr, Err};
-ghost use Rattle.mm_life.specs.{unstarted, is_legal, IsLegal, after_move, held_at};
+ghost use Rattle.mm_move_rules.specs.{unstarted, is_legal, IsLegal, after_move, held_at};
 ghost use Rattle.mm_replay.specs.Replaying.{life as life_of};
-ghost use Rattle.mm_laws.specs.{ReachedByMoves};
+ghost use Rattle.mm_move_laws.specs.{ReachedByMoves};
 
 use crate::conditions::is_legal;
 use crate::records::is_read;

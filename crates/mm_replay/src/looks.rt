@@ -1,14 +1,14 @@
 ghost use Rattle.std.specs.Prelude.{◌≡◌, ◌<◌, ◌^◌, false, count_by, length, slice_index_or};
-ghost use Rattle.mm_life.specs.{record_at, is_empty, is_on, counts_of, is_active, is_in_transition, is_live, set_of};
+ghost use Rattle.mm_move_rules.specs.{record_at, is_empty, is_on, counts_of, is_active, is_in_transition, is_live, set_of};
 ghost use Rattle.mm_replay.specs.{frames_on, frame_at, IsBehind};
-ghost use Rattle.mm_laws.specs.{counted_frames};
+ghost use Rattle.mm_move_laws.specs.{counted_frames};
 
 use crate::conditions::{is_dead, set_of};
 use crate::four_lists::FrameList;
 use crate::lives::Life;
 use crate::records::has_request;
 use crate::values::framed;
-use mm_life::ResidentSet;
+use mm_move_rules::ResidentSet;
 use mm_types::{Counts, Frame, Held, Key, LineKind, Pid, Place, Record, Slot};
 
 /// How many of the frames hold a page that is valid somewhere.

@@ -1,6 +1,6 @@
 ghost use Rattle.std.specs.Prelude.{◌≡◌, ◌^◌, ℕ, List, Option, IfSome, Some, [], codes, option_map};
 ghost use Rattle.mm_types.specs.{Move, Key};
-ghost use Rattle.mm_life.specs.{move_text, key_onto, IsMove, IsKey, move_onto};
+ghost use Rattle.mm_move_rules.specs.{move_text, key_onto, IsMove, IsKey, move_onto};
 ghost use Rattle.mm_replay.specs.{strip, number_from, below, read_number, number_behind, read_pid, read_place, read_key, read_frame, read_plain_kind};
 ghost use Rattle.mm_replay.specs.{read_kind, read_end, read_taking, read_text, read_private, read_shared, home_behind, key_behind, past};
 ghost use Rattle.mm_replay.specs.{place_behind, stored_behind};

@@ -1,6 +1,6 @@
 ghost use Rattle.std.specs.Prelude.{◌≡◌, ◌+◌, ◌-◌, ◌<◌, ◌^◌, true, false, is_some};
-ghost use Rattle.mm_life.specs.{blank, shared, soiled, write_done, write_lost, is_again, has_request, is_read, is_write, without_slot, slot_of};
-ghost use Rattle.mm_life.specs.{slot_after_soil, slot_after_drop, slot_after_read, slot_after_wrote, is_idle};
+ghost use Rattle.mm_move_rules.specs.{blank, shared, soiled, write_done, write_lost, is_again, has_request, is_read, is_write, without_slot, slot_of};
+ghost use Rattle.mm_move_rules.specs.{slot_after_soil, slot_after_drop, slot_after_read, slot_after_wrote, is_idle};
 ghost use Rattle.mm_replay.specs.{is_changed_page};
 
 use mm_types::{Backing, Record, Request};

@@ -1,8 +1,8 @@
 ghost use Rattle.std.specs.Prelude.{◌≡◌, ◌+◌, ◌-◌, true, false, if◌then◌else◌, IfOk, OnOk, OnErr, IfSome, length};
 ghost use Rattle.mm_types.specs.declared.moves.Move.TheVariants as move;
 ghost use Rattle.mm_types.specs.declared.moves.LineKind.TheVariants as kind;
-ghost use Rattle.mm_life.specs.{unstarted, set_in, with_resident, is_dead, IsLegal, is_below_max, after_move, after_at, after_add, home_at};
-ghost use Rattle.mm_life.specs.{backing_of, homed};
+ghost use Rattle.mm_move_rules.specs.{unstarted, set_in, with_resident, is_dead, IsLegal, is_below_max, after_move, after_at, after_add, home_at};
+ghost use Rattle.mm_move_rules.specs.{backing_of, homed};
 ghost use Rattle.mm_replay.specs.Sound.{Listed, SoundReplay};
 
 use crate::free_slots::SlotMap;
@@ -13,7 +13,7 @@ use crate::records::{
 };
 use crate::tables::Table;
 use crate::values::{flags, put, set_at};
-use mm_life::ResidentSet;
+use mm_move_rules::ResidentSet;
 use mm_types::{
     Backing, Block, Frame, Held, Key, LineKind, Move, NoMemory, Pid, Place, Record, Request, Stored,
 };

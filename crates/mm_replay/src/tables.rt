@@ -1,8 +1,8 @@
 ghost use Rattle.std.specs.Prelude.{◌≡◌, ◌+◌, ◌<◌, ◌≤◌, ◌^◌, ◌&&◌, ◌||◌, true, false, if◌then◌else◌, is_some, length, IfOk, slice_get};
 ghost use Rattle.mm_replay.specs.Looking.{frames_on, IsBehind};
-ghost use Rattle.mm_life.specs.{record_at, is_first, is_empty, is_on, is_read, has_request, taken_for_read, after_clear, after_steal, after_give};
-ghost use Rattle.mm_life.specs.{after_read, after_bad, after_map, after_unmap, after_soil, after_write, after_drop, free_table, settled, to_free};
-ghost use Rattle.mm_life.specs.{with_record};
+ghost use Rattle.mm_move_rules.specs.{record_at, is_first, is_empty, is_on, is_read, has_request, taken_for_read, after_clear, after_steal, after_give};
+ghost use Rattle.mm_move_rules.specs.{after_read, after_bad, after_map, after_unmap, after_soil, after_write, after_drop, free_table, settled, to_free};
+ghost use Rattle.mm_move_rules.specs.{with_record};
 ghost use Rattle.mm_replay.specs.Listings.{table, IsListingKept, IsOff};
 ghost use Rattle.mm_replay.specs.Sound.{Listed};
 
@@ -22,7 +22,7 @@ pub(crate) struct Table {
 }
 
 impl Model for Table {
-    ghost use Rattle.mm_life.specs.{FrameTable};
+    ghost use Rattle.mm_move_rules.specs.{FrameTable};
     ghost use Rattle.mm_replay.specs.Listings.{table, IsListingKept};
 
     ghost Value = { FrameTable };

@@ -6,12 +6,12 @@ use Rattle.std.proofs.lemmas.List.Sums.{sum_by_push, sum_by-cons}
 use Rattle.mm_types.specs.{MachineOf, limit_of, Answer, Event, Move}
 use Rattle.mm_types.specs.declared.answers.Answer.TheVariants as answer
 use Rattle.mm_types.specs.declared.events.Event.TheVariants as line
-use Rattle.mm_paging.specs.{first_move}
+use Rattle.mm_line_moves.specs.{first_move}
 use Rattle.mm_run.specs.{Ending, Outset, Stage, NotBegun, Running, Follows, HasNoted, log_of, MachineIsMade, Moved, DecidedLine, last_stage}
 use Rattle.mm_run.specs.{answers_in, BreaksOff, AreDecided, IsEventNext, ClosesEvents, HeadIsMuted, MutesEvent, BulkStops, events_in, begins_ok, is_none, FaultCounts}
 use Rattle.mm_run.specs.{IsBlamed, IsUnanswered, Handled, Stopped}
 use Rattle.mm_run.specs.declared.endings.Ending.TheVariants as ending
-use Rattle.mm_core.specs.{Scene}
+use Rattle.mm_dispatch.specs.{Scene}
 use Rattle.mm_run.proofs.Stories.{follows_here, last-append}
 use Rattle.mm_run.proofs.Firsts.{first_answered}
 use Rattle.mm_run.proofs.Ends.{blamed_beside}

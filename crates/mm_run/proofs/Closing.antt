@@ -2,8 +2,8 @@
 use Rattle.std.proofs.Common.{◌≡◌, ◌≢◌, ◌≤◌, ℕ, ◌+◌, true, false, List, [], ◌++◌, length, Option, refl, sym, ap, ◌∙◌, subst, inl, inr, arith, ◌∷◌, append_assoc, length-append}
 use Rattle.mm_types.specs.{Appended, Text, spelled, spelling, answer_text}
 use Rattle.mm_types.proofs.{append_nil, appended_then, rose_later}
-use Rattle.mm_life.specs.{Log, IsFrontOf}
-use Rattle.mm_life.proofs.{front_of_then, gave_nothing}
+use Rattle.mm_move_rules.specs.{Log, IsFrontOf}
+use Rattle.mm_move_rules.proofs.{front_of_then, gave_nothing}
 use Rattle.mm_run.specs.{Ending, Stage, NotBegun, Running, outset, log_of, DecidedLine, HoldMovesOf, last_stage, answers_in, moves_of, last_text}
 use Rattle.mm_run.specs.{status_of, CameFrom, Comes, FaultCounts, IsBlamed, SettlesRun, StandsAt, fault_counts_with, outside, stand, ClosesRun}
 use Rattle.mm_run.specs.{DeviceLeft, Left, StageLeaves, IsLeft, IsLogLeft, SinkSeen, GaveMoves, Drops, Closed, is_over, IsAccounted, Around}

@@ -2,13 +2,13 @@
 use Rattle.std.proofs.Common.{◌≡◌, Option, Some, None, refl, sym, ap, ◌∙◌}
 use Rattle.std.specs.Prelude.{is_some, unwrap_or}
 use Rattle.mm_types.specs.{Key}
-use Rattle.mm_life.specs.{is_live}
+use Rattle.mm_move_rules.specs.{is_live}
 use Rattle.mm_world.specs.{Page, filled, content_of, Tables, world_with}
 use Rattle.mm_world.proofs.{holds_bytes}
-use Rattle.mm_pages.specs.{StoreOf, PagingStands}
-use Rattle.mm_pages.specs.Behind.{Behind}
-use Rattle.mm_paging.specs.{DevicesHold}
-use Rattle.mm_tables.specs.{key_bytes}
+use Rattle.mm_store.specs.{StoreOf, PagingStands}
+use Rattle.mm_store.specs.Behind.{Behind}
+use Rattle.mm_line_moves.specs.{DevicesHold}
+use Rattle.mm_object_tables.specs.{key_bytes}
 
 one_content : (o p : Option Page) → is_some p ≡ is_some o → ((x : Page) → o ≡ Some x → x ≡ unwrap_or p (filled 0)) → o ≡ p
 one_content None None e h = refl

@@ -2,12 +2,12 @@
 use Rattle.std.proofs.Common.{◌≡◌, ◌⊎◌, ◌≤◌, ℕ, true, false, List, [], ◌∷◌, Option, Some, None, refl, sym, ap, ◌∙◌, subst, inl, inr, arith}
 use Rattle.mm_types.specs.{Rose, Text, Answer, Event, Move}
 use Rattle.mm_types.proofs.{rose_then, rose_later}
-use Rattle.mm_life.specs.{unstarted, Replays, wait_of}
-use Rattle.mm_laws.specs.Sound.{Sound}
-use Rattle.mm_laws.proofs.{kept_along, replay_sound}
-use Rattle.mm_blocks.specs.{DeviceOf}
+use Rattle.mm_move_rules.specs.{unstarted, Replays, wait_of}
+use Rattle.mm_move_laws.specs.Sound.{Sound}
+use Rattle.mm_move_laws.proofs.{kept_along, replay_sound}
+use Rattle.mm_devices.specs.{DeviceOf}
 use Rattle.mm_world.specs.{wait_failed}
-use Rattle.mm_core.specs.{IsFailure, OneFailed, HasFailed, resumed_thread, Scene}
+use Rattle.mm_dispatch.specs.{IsFailure, OneFailed, HasFailed, resumed_thread, Scene}
 use Rattle.mm_run.specs.{Ending, Outset, Stage, NotBegun, Running, Follows, MachineBegins, DecidesLine, IsDecided, DecidedLine, AreAnswered}
 use Rattle.mm_run.specs.{last_stage, MadeNamed, AreFaultless, Left, StageLeaves, ClosesRun, BreaksAt, SomeRose, begun_at, AreDecided, ClosesEvents}
 use Rattle.mm_run.specs.declared.endings.Ending.TheVariants as ending

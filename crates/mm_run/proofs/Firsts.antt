@@ -8,11 +8,11 @@ use Rattle.mm_types.specs.declared.answers.Answer.TheVariants as answer
 use Rattle.mm_types.specs.declared.events.Event.TheVariants as line
 use Rattle.mm_world.specs.{charge, limit, first_world}
 use Rattle.mm_world.specs.World.{World}
-use Rattle.mm_paging.specs.{first_move}
+use Rattle.mm_line_moves.specs.{first_move}
 use Rattle.mm_run.specs.declared.endings.Ending.TheVariants as ending
 use Rattle.mm_run.specs.{reading_of, Outset, Stage, NotBegun, Running, HasNoted, log_of, IsDecided, MachineIsMade, DecidedLine, IsNext, WentOn}
 use Rattle.mm_run.specs.{Ending, CameToEnd, HoldsLine, IsUnanswered, outside, stand}
-use Rattle.mm_core.specs.{Scene, is_machine}
+use Rattle.mm_dispatch.specs.{Scene, is_machine}
 use Rattle.mm_run.proofs.Stories.{follows_here, grows_here}
 use Rattle.mm_run.proofs.Stops.{is_line, went_to, came_muted, came_broken, came_memory, came_setup}
 

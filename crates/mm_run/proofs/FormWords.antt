@@ -6,8 +6,8 @@ use Rattle.std.specs.declared.alloc.Global.{Global}
 use Rattle.std.proofs.lemmas.Bool.{and_right}
 use Rattle.mm_types.specs.{Text}
 use Rattle.mm_text.specs.{are_digits, value_in}
-use Rattle.mm_make.specs.{script_of}
-use Rattle.mm_forms.specs.{Form, Said, Says, SaysNone, is_dashed, texts}
+use Rattle.mm_generate.specs.{script_of}
+use Rattle.mm_arguments.specs.{Form, Said, Says, SaysNone, is_dashed, texts}
 use Rattle.mm_run.specs.{WordsForm, IsBulk, IsNoBulk, BulkRan, below_64, word_value, Around, RanOrRefused, IsRunForm, SaysForm}
 use Rattle.mm_run.specs.declared.forms.WordsForm.TheVariants as form
 use Rattle.mm_run.specs.Ran.{Ran}

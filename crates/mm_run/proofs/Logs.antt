@@ -3,10 +3,10 @@ use Rattle.std.proofs.Common.{◌≡◌, ◌≢◌, ◌≤◌, ℕ, arith, List,
 use Rattle.std.specs.Prelude.{Bool, true, false}
 use Rattle.mm_types.specs.{Appended, Text, Move}
 use Rattle.mm_types.proofs.{append_nil, appended_none, appended_then, rose_later, rose_then}
-use Rattle.mm_life.specs.{FrameLife, unstarted, LogGrew, AreMoves, spelled_moves, Replays}
-use Rattle.mm_life.proofs.{replays_then, spelled-append, moves-append}
+use Rattle.mm_move_rules.specs.{FrameLife, unstarted, LogGrew, AreMoves, spelled_moves, Replays}
+use Rattle.mm_move_rules.proofs.{replays_then, spelled-append, moves-append}
 use Rattle.mm_world.specs.{Page}
-use Rattle.mm_paging.specs.{DevicesHold}
+use Rattle.mm_line_moves.specs.{DevicesHold}
 use Rattle.mm_run.specs.{Ending, Stage, NotBegun, Running, Follows, HasNoted, with_flush, log_of, replay_of, StageNotes, HoldsUnchanged, DecidedLine}
 use Rattle.mm_run.specs.{AreAnswered, last_stage, moves_of, TornText, ClosesRun, BreaksAt, Left, StageLeaves, LogRan, EndsHolding, AreDecided}
 use Rattle.mm_run.specs.{ClosesEvents}

@@ -10,20 +10,20 @@ use Rattle.mm_types.specs.declared.devices.Direction.TheVariants as way
 use Rattle.mm_types.specs.declared.frames.Backing.TheVariants as backing
 use Rattle.mm_types.specs.declared.frames.Request.TheVariants as request
 use Rattle.mm_types.specs.declared.moves.Move.TheVariants as move
-use Rattle.mm_life.specs.{record_at, is_read, has_request, FrameLife, is_io, is_access, after_move, Replays, Waiting, Idle, ForFrame, Ended, wait_of}
-use Rattle.mm_life.specs.{ended_by, waits_after, waits_through}
-use Rattle.mm_laws.specs.{Fit, is_backed}
-use Rattle.mm_laws.specs.Sound.{Sound}
-use Rattle.mm_laws.proofs.{keeps}
+use Rattle.mm_move_rules.specs.{record_at, is_read, has_request, FrameLife, is_io, is_access, after_move, Replays, Waiting, Idle, ForFrame, Ended, wait_of}
+use Rattle.mm_move_rules.specs.{ended_by, waits_after, waits_through}
+use Rattle.mm_move_laws.specs.{Fit, is_backed}
+use Rattle.mm_move_laws.specs.Sound.{Sound}
+use Rattle.mm_move_laws.proofs.{keeps}
 use Rattle.mm_world.specs.{wait_failed, Page, kept_by}
-use Rattle.mm_blocks.specs.{DeviceCall, DeviceOf, Call, AllServed, logged_call, CallFailed}
-use Rattle.mm_blocks.proofs.{all_served_failed}
-use Rattle.mm_pages.specs.{in_slot, in_block, call_of, calls_of, paging_traffic, file_traffic, AllTurn, Makes, Aim}
-use Rattle.mm_pages.specs.Behind.{Behind}
+use Rattle.mm_devices.specs.{DeviceCall, DeviceOf, Call, AllServed, logged_call, CallFailed}
+use Rattle.mm_devices.proofs.{all_served_failed}
+use Rattle.mm_store.specs.{in_slot, in_block, call_of, calls_of, paging_traffic, file_traffic, AllTurn, Makes, Aim}
+use Rattle.mm_store.specs.Behind.{Behind}
 use Rattle.mm_world.specs.World.{World}
 use Rattle.mm_world.specs.Report.{Report}
-use Rattle.mm_paging.specs.{aim_of, Line, Does, awaited, is_pending_read, keeps_for, wait_of_begin, waits_of_line, asks_beside}
-use Rattle.mm_core.specs.{OneFailed}
+use Rattle.mm_line_moves.specs.{aim_of, Line, Does, awaited, is_pending_read, keeps_for, wait_of_begin, waits_of_line, asks_beside}
+use Rattle.mm_dispatch.specs.{OneFailed}
 
 -- ---- the read of a thread has failed
 

@@ -3,22 +3,22 @@ use Rattle.std.proofs.lemmas.List.{length-replicate}
 use Rattle.std.specs.Prelude.{Bool}
 use Rattle.std.proofs.Common.{◌≡◌, ◌≤◌, ℕ, zero, suc, List, [], ◌∷◌, Option, None, true, false, length, replicate, slice_get, refl, sym, ap, ◌∙◌, subst}
 use Rattle.mm_types.specs.{MachineOf, Key, Loan, Both}
-use Rattle.mm_life.specs.{IsLegal, unstarted, Log, Grew, AreMoves, spelled_moves, Idle, wait_of}
+use Rattle.mm_move_rules.specs.{IsLegal, unstarted, Log, Grew, AreMoves, spelled_moves, Idle, wait_of}
 use Rattle.std.specs.Borrow.{GName}
-use Rattle.mm_blocks.specs.{DeviceOf, NamedCalls, NoneLogged, device_with, empty_block}
-use Rattle.mm_blocks.specs.declared.Blocks.{Ghosts as DeviceGhosts}
+use Rattle.mm_devices.specs.{DeviceOf, NamedCalls, NoneLogged, device_with, empty_block}
+use Rattle.mm_devices.specs.declared.Blocks.{Ghosts as DeviceGhosts}
 use Rattle.mm_io.specs.declared.Sink.{Ghosts as SinkGhosts}
 use Rattle.mm_world.specs.{Page, first_world}
 use Rattle.mm_world.specs.World.{World}
-use Rattle.mm_flight.specs.declared.flights.Waiting.TheVariants as waiting
+use Rattle.mm_requests.specs.declared.flights.Waiting.TheVariants as waiting
 use Rattle.mm_parts.specs.{walked_or, first_parts}
-use Rattle.mm_pages.specs.{StoreOf, none_told, IsNew}
-use Rattle.mm_pages.specs.Behind.{Behind}
-use Rattle.mm_moving.specs.{StateOf}
+use Rattle.mm_store.specs.{StoreOf, none_told, IsNew}
+use Rattle.mm_store.specs.Behind.{Behind}
+use Rattle.mm_state_calls.specs.{StateOf}
 use Rattle.mm_state.specs.{MachineStarts, joined_state}
-use Rattle.mm_paged.specs.{OwnOf, own_of, store_of, behind_of}
-use Rattle.mm_paging.specs.{Agrees, first_move}
-use Rattle.mm_core.specs.{Scene}
+use Rattle.mm_pager.specs.{OwnOf, own_of, store_of, behind_of}
+use Rattle.mm_line_moves.specs.{Agrees, first_move}
+use Rattle.mm_dispatch.specs.{Scene}
 use Rattle.mm_run.specs.{AreOpened, Outset, MachineIsMade, Opened, Starts, device_seen, outset}
 
 nobody_waits : (n t : ℕ) → walked_or (slice_get (replicate n waiting.Nothing) t) ≡ Idle

@@ -3,11 +3,11 @@ use Rattle.std.proofs.Common.{◌≡◌, ◌⊎◌, ℕ, List, suc, ◌+◌, ◌
 use Rattle.std.proofs.lemmas.List.{length-take}
 use Rattle.std.specs.Prelude.{Ok, Err, true}
 use Rattle.mm_types.specs.{Appended, IsEnd, Text, spelling, Event}
-use Rattle.mm_life.specs.{spelled_moves}
+use Rattle.mm_move_rules.specs.{spelled_moves}
 use Rattle.mm_types.proofs.{append_nil, took_none, appended_none}
 use Rattle.mm_io.specs.{FitsLine, with_line_feed, text_of_lines, HasLine, IsLong, Filled}
 use Rattle.mm_io.proofs.{filled_none}
-use Rattle.mm_core.specs.{Scene, is_machine}
+use Rattle.mm_dispatch.specs.{Scene, is_machine}
 use Rattle.mm_run.specs.{Stage, Running, HasNoted, Follows, log_of, Ending, reading_of, BreaksLine, DecidedLine, HoldMovesOf, IsNext, TornText}
 use Rattle.mm_run.specs.{ClosesRun, BreaksOff, TakesMemory, KeepsAnswers, IsMisplaced, WentOn, CameToEnd, SettlesRun, StandsAt, InputEndsAt, outside}
 use Rattle.mm_run.specs.{stand}

@@ -11,9 +11,9 @@ use Rattle.mm_run.specs.{Ending, Outset, Stage, NotBegun, Running, Follows, with
 use Rattle.mm_run.specs.{HoldMovesOf, last_stage, texts_of, answers_in, IsFront, ClosesRun, Left, IsLogLeft, TakesMemory, KeepsAnswers, WentOn}
 use Rattle.mm_run.specs.{CameToEnd, Comes, SettlesRun, StandsAt, Outside, RunStand, outside, stand}
 use Rattle.mm_run.specs.declared.endings.Ending.TheVariants as ending
-use Rattle.mm_core.specs.{Scene}
-use Rattle.mm_life.specs.{Log, IsFrontOf, LogGrew, Grew, Flushed, spelled_moves}
-use Rattle.mm_life.proofs.{front_of_then, gave_nothing, gave_then}
+use Rattle.mm_dispatch.specs.{Scene}
+use Rattle.mm_move_rules.specs.{Log, IsFrontOf, LogGrew, Grew, Flushed, spelled_moves}
+use Rattle.mm_move_rules.proofs.{front_of_then, gave_nothing, gave_then}
 
 -- ---- the lists of lines
 

@@ -11,8 +11,8 @@ use Rattle.mm_world.specs.{access_fails, wait_failed, pending, step, stepped, un
 use Rattle.mm_world.specs.{kept_by, need_at, is_failed_extension}
 use Rattle.mm_world.specs.World.{World}
 use Rattle.mm_world.specs.Report.{Report}
-use Rattle.mm_paging.proofs.{no_failure}
-use Rattle.mm_core.specs.{asks_frames}
+use Rattle.mm_line_moves.proofs.{no_failure}
+use Rattle.mm_dispatch.specs.{asks_frames}
 use Rattle.mm_run.specs.{tells_paging, NoneFailed}
 
 -- ---- what a store tells is a failed access, a pending one, a fault, or asked for by the line

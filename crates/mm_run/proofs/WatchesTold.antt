@@ -6,7 +6,7 @@ use Rattle.mm_types.specs.declared.events.Event.TheVariants as line
 use Rattle.mm_world.specs.{Page, OutcomeOf, first_world, Spaces, flag_of, write_of}
 use Rattle.mm_world.specs.World.{World}
 use Rattle.mm_world.proofs.{spaces_keep, first_spaces}
-use Rattle.mm_core.specs.{Scene}
+use Rattle.mm_dispatch.specs.{Scene}
 use Rattle.mm_run.specs.{Outset, Stage, NotBegun, Running, Follows, with_flush, log_of, MachineBegins, DecidesLine, StageStepped, AnsweredLine}
 use Rattle.mm_run.specs.{WriteMarks, write_marks_after, write_marks_over, no_write_marks, GivesWritten, DecidedLine, IsNext, AreAnswered, last_stage}
 use Rattle.mm_run.specs.{answered_lines}

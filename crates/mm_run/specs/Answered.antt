@@ -3,11 +3,11 @@
 use Rattle.std.specs.Prelude.{◌≡◌, ◌⊎◌, ℕ, suc, true, List, [], ◌∷◌, Option, map, Ok}
 use Rattle.std.specs.List.{flat_map}
 use Rattle.mm_types.specs.{Text, Answer, Event, Move}
-use Rattle.mm_life.specs.{IsFrontOf}
+use Rattle.mm_move_rules.specs.{IsFrontOf}
 use Rattle.mm_io.specs.{FitsLine}
 use Rattle.mm_script.specs.{IsLine as IsLineFor}
-use Rattle.mm_blocks.specs.{NamedMade}
-use Rattle.mm_core.specs.{IsFailure}
+use Rattle.mm_devices.specs.{NamedMade}
+use Rattle.mm_dispatch.specs.{IsFailure}
 use Rattle.mm_run.specs.Reading.{reading_of}
 use Rattle.mm_run.specs.Scenes.{Stage, Running, HasNoted, Follows, log_of}
 use Rattle.mm_run.specs.Steps.{IsDecided}

@@ -1,7 +1,7 @@
 -- `bulk SEED COUNT`: what a run of a generated script did, on one page.
 -- Profile, "A run".
 --
--- Its events are those of mm_make. Each is decided as a line of a script would be, the first of
+-- Its events are those of mm_generate. Each is decided as a line of a script would be, the first of
 -- them as line 1; none has a text, so what a decided line has as its text says nothing here, and
 -- the source is not asked. No answer is printed: four lines are, over all of them.
 use Rattle.std.specs.Prelude.{◌≡◌, ◌≢◌, ◌⊎◌, ℕ, ◌<◌, ◌≤◌, ◌^◌, Bool, true, false, List, [], ◌∷◌, ◌++◌, length, map, take, codes, bytes_eq, count_by, Option, Some, None, option_and_then, nat_lt, if◌then◌else◌, String, string_bytes}

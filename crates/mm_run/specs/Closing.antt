@@ -3,7 +3,7 @@
 -- Profile, "A run".
 use Rattle.std.specs.Prelude.{◌≡◌, ◌⊎◌, ◌≤◌, ℕ, ◌++◌, Bool, true, false, Option}
 use Rattle.mm_types.specs.{Appended, Rose, Text}
-use Rattle.mm_life.specs.{IsFrontOf}
+use Rattle.mm_move_rules.specs.{IsFrontOf}
 use Rattle.mm_run.specs.declared.endings.Ending.{Ending}
 use Rattle.mm_run.specs.declared.endings.Ending.TheVariants as ending
 use Rattle.mm_run.specs.Texts.{TornText, status_of, last_text}

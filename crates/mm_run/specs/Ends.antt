@@ -4,10 +4,10 @@
 use Rattle.std.specs.Prelude.{◌≡◌, ◌⊎◌, ◌≤◌, ℕ, true, List, Option}
 use Rattle.mm_types.specs.{Text, Event}
 use Rattle.mm_io.specs.{with_line_feed}
-use Rattle.mm_life.specs.{Log, IsFrontOf}
+use Rattle.mm_move_rules.specs.{Log, IsFrontOf}
 use Rattle.mm_world.specs.{Page, filled}
-use Rattle.mm_blocks.specs.{DeviceCall, DeviceOf}
-use Rattle.mm_core.specs.{is_machine, takes_memory}
+use Rattle.mm_devices.specs.{DeviceCall, DeviceOf}
+use Rattle.mm_dispatch.specs.{is_machine, takes_memory}
 use Rattle.mm_run.specs.declared.endings.Ending.{Ending}
 use Rattle.mm_run.specs.declared.endings.Ending.TheVariants as ending
 use Rattle.mm_run.specs.Scenes.{Stage, NotBegun, Running, Follows}

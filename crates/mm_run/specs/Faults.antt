@@ -2,7 +2,7 @@
 -- Profile, "A run".
 use Rattle.std.specs.Prelude.{◌≡◌, ◌⊎◌, ◌≤◌, ℕ}
 use Rattle.mm_types.specs.{Rose}
-use Rattle.mm_blocks.specs.{NoneLogged}
+use Rattle.mm_devices.specs.{NoneLogged}
 use Rattle.mm_run.specs.Ends.{DeviceLeft}
 use Rattle.mm_run.specs.Story.{FaultCounts}
 use Rattle.mm_run.specs.Script.{IsFault}

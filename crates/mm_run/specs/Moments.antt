@@ -3,7 +3,7 @@
 use Rattle.std.specs.Prelude.{◌≡◌, ◌≢◌, ℕ, ◌+◌, ◌<◌, ◌≤◌, Bool, false, [], length, Option, Result, MatchOption, MatchResult}
 use Rattle.mm_types.specs.{Loans, Text, Event}
 use Rattle.mm_io.specs.{HasLine}
-use Rattle.mm_core.specs.{Scene}
+use Rattle.mm_dispatch.specs.{Scene}
 use Rattle.mm_run.specs.declared.endings.Ending.{Ending}
 use Rattle.mm_run.specs.declared.endings.Ending.TheVariants as ending
 use Rattle.mm_run.specs.Scenes.{Stage, Running, log_of}

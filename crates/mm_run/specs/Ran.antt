@@ -6,10 +6,10 @@
 -- (`None`), and nothing is said of it.
 use Rattle.std.specs.Prelude.{◌≡◌, ◌≢◌, ◌⊎◌, ℕ, ◌<◌, ◌≤◌, List, ◌∷◌, ◌++◌, [], length, Option}
 use Rattle.mm_types.specs.{Took, Appended, Rose, Text, spelled, Move}
-use Rattle.mm_life.specs.{unstarted, AreMoves, spelled_moves, Replays}
+use Rattle.mm_move_rules.specs.{unstarted, AreMoves, spelled_moves, Replays}
 use Rattle.mm_io.specs.{text_of_lines}
 use Rattle.mm_world.specs.{Page}
-use Rattle.mm_paging.specs.{DevicesHold}
+use Rattle.mm_line_moves.specs.{DevicesHold}
 use Rattle.mm_run.specs.declared.endings.Ending.{Ending}
 use Rattle.mm_run.specs.declared.endings.Ending.TheVariants as ending
 use Rattle.mm_run.specs.Scenes.{Stage, NotBegun, Running, outset, replay_of}

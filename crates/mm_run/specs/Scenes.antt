@@ -1,8 +1,8 @@
 -- What a run shows between two lines.
 -- Profile, "A run".
 use Rattle.std.specs.Prelude.{◌≡◌, ◌≤◌, ℕ, false, List, Option}
-use Rattle.mm_life.specs.{FrameLife, unstarted, Log, GaveOn}
-use Rattle.mm_core.specs.{Scene}
+use Rattle.mm_move_rules.specs.{FrameLife, unstarted, Log, GaveOn}
+use Rattle.mm_dispatch.specs.{Scene}
 
 -- Before its first line: the counts of faults of both devices, and how the sink of moves stands.
 pub record Outset : Type 0 where

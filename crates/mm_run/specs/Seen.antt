@@ -3,9 +3,9 @@
 use Rattle.mm_types.specs.{Text}
 use Rattle.mm_io.specs.declared.Source.{Ghosts as SourceGhosts}
 use Rattle.mm_io.specs.declared.Sink.{Ghosts as SinkGhosts}
-use Rattle.mm_blocks.specs.declared.Blocks.{Ghosts as DeviceGhosts}
-use Rattle.mm_pages.specs.{Ghosts as PagesGhosts}
-use Rattle.mm_core.specs.{World, line_number, loans, scene}
+use Rattle.mm_devices.specs.declared.Blocks.{Ghosts as DeviceGhosts}
+use Rattle.mm_store.specs.{Ghosts as PagesGhosts}
+use Rattle.mm_dispatch.specs.{World, line_number, loans, scene}
 use Rattle.mm_run.specs.Scenes.{Outset, Running, outset}
 use Rattle.mm_run.specs.Ends.{DeviceLeft, Left, device_left, left_with}
 use Rattle.mm_run.specs.Ran.{Around, around}

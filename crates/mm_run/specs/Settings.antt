@@ -5,7 +5,7 @@ use Rattle.mm_types.specs.{MachineOf, Text}
 use Rattle.mm_types.specs.declared.events.Event.TheVariants as event
 use Rattle.mm_io.specs.{HasLine}
 use Rattle.mm_script.specs.{IsLine as IsLineFor}
-use Rattle.mm_blocks.specs.{NoneLogged, empty_block}
+use Rattle.mm_devices.specs.{NoneLogged, empty_block}
 use Rattle.mm_run.specs.declared.endings.Ending.{Ending}
 use Rattle.mm_run.specs.Reading.{reading_of}
 use Rattle.mm_run.specs.Ends.{DeviceLeft, Left}

@@ -3,8 +3,8 @@
 use Rattle.std.specs.Prelude.{◌≡◌, ◌≤◌, false, [], List}
 use Rattle.mm_types.specs.{MachineOf}
 use Rattle.mm_world.specs.{Page}
-use Rattle.mm_blocks.specs.{DeviceOf}
-use Rattle.mm_moving.specs.{StateOf}
+use Rattle.mm_devices.specs.{DeviceOf}
+use Rattle.mm_state_calls.specs.{StateOf}
 use Rattle.mm_state.specs.{MachineStarts}
 use Rattle.mm_run.specs.Scenes.{Outset}
 use Rattle.mm_run.specs.Ends.{Left, device_left, left_with}

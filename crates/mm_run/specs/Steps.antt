@@ -5,13 +5,13 @@ use Rattle.mm_types.specs.{MachineOf, limit_of, Answer, Event, Move}
 use Rattle.mm_types.specs.declared.answers.Answer.TheVariants as answer
 use Rattle.mm_types.specs.declared.answers.Wait.TheVariants as wait
 use Rattle.mm_types.specs.declared.events.Event.TheVariants as line
-use Rattle.mm_life.specs.{Grew, AreMoves, spelled_moves, Replays, Idle}
+use Rattle.mm_move_rules.specs.{Grew, AreMoves, spelled_moves, Replays, Idle}
 use Rattle.mm_world.specs.{charge, limit, failed_calls, done, first_world, step, unpaged as unpaged_step, is_told, is_failed_extension}
 use Rattle.mm_world.specs.Report.{Report}
-use Rattle.mm_blocks.specs.{NoneLogged, empty_block, DeviceOf}
-use Rattle.mm_pages.specs.{told_of, none_told}
-use Rattle.mm_paging.specs.{Agrees, DevicesHold, first_move}
-use Rattle.mm_core.specs.{asks_frames, Scene, ToldBeside, Breaks as WorldBreaks, is_machine}
+use Rattle.mm_devices.specs.{NoneLogged, empty_block, DeviceOf}
+use Rattle.mm_store.specs.{told_of, none_told}
+use Rattle.mm_line_moves.specs.{Agrees, DevicesHold, first_move}
+use Rattle.mm_dispatch.specs.{asks_frames, Scene, ToldBeside, Breaks as WorldBreaks, is_machine}
 use Rattle.mm_run.specs.Scenes.{Outset, Stage, NotBegun, Running, replay_of, log_of}
 
 -- ---- the first line

@@ -1,14 +1,14 @@
 -- What stands at each moment of a run, and what makes it end.
 -- Profile, "A run".
 use Rattle.std.specs.Prelude.{◌≡◌, ◌⊎◌, ℕ, ◌+◌, ◌<◌, ◌≤◌, List, [], ◌∷◌, ◌++◌, length, Option, Ok, Err, map, codes, String, string_bytes, true, nat_lt}
-use Rattle.mm_life.specs.{IsFrontOf}
+use Rattle.mm_move_rules.specs.{IsFrontOf}
 use Rattle.std.specs.declared.alloc.Global.{Global}
 use Rattle.mm_types.specs.{Took, IsEnd, Appended, Rose, Text, spelled, Event}
 use Rattle.mm_io.specs.{FitsLine, NoFeed, with_line_feed, text_of_lines}
 use Rattle.mm_script.specs.{IsLine as IsLineFor}
 use Rattle.mm_run.specs.declared.endings.Ending.{Ending}
 use Rattle.mm_run.specs.declared.endings.Ending.TheVariants as ending
-use Rattle.mm_core.specs.{is_machine}
+use Rattle.mm_dispatch.specs.{is_machine}
 use Rattle.mm_run.specs.Reading.{reading_of}
 use Rattle.mm_run.specs.Scenes.{Stage, Follows, log_of}
 use Rattle.mm_run.specs.Answered.{DecidedLine, AreAnswered, HoldMovesOf, last_stage, texts_of, answers_in}

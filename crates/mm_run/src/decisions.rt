@@ -1,7 +1,7 @@
 ghost use Rattle.std.specs.Prelude.{◌≡◌, ◌≢◌, ◌<◌, ◌≤◌, ◌+◌, ◌++◌, ℕ, List, [], length, drop, Some, Err, IfNone, IfOk, OnOk, MatchResult};
 ghost use Rattle.mm_types.specs.{spelling};
 ghost use Rattle.mm_io.specs.{HasLine};
-ghost use Rattle.mm_core.specs.{line_number, loans, world_behind, Scene, scene};
+ghost use Rattle.mm_dispatch.specs.{line_number, loans, world_behind, Scene, scene};
 ghost use Rattle.mm_run.specs.{Stage, Running, Moved, InputEndsAt, IsLaterEvent, Input, Output, moment, HoldsLine, HasNotedAll, IsBetween, IsStill};
 ghost use Rattle.mm_run.specs.{KeepsWorld, IsUnanswered, AccountsMoves, EndsRun, GoesOnOrEnds, FindsLine, StepsBetween, input_seen, output_seen};
 ghost use Rattle.mm_run.specs.{world_seen, moment_seen};
@@ -9,9 +9,9 @@ ghost use Rattle.mm_run.specs.{world_seen, moment_seen};
 use crate::answers::Kept;
 use crate::endings::Ending;
 use crate::readings::later_event;
-use mm_core::World;
+use mm_dispatch::World;
 use mm_io::{Found, Held, Look, Sink, Source};
-use mm_pages::FlushesMoves;
+use mm_store::FlushesMoves;
 use mm_types::{Answer, Event, NoMemory};
 use std::alloc::Global;
 

@@ -3,7 +3,7 @@ ghost use Rattle.mm_text.specs.{digit_value};
 ghost use Rattle.mm_run.specs.Bulk.{word_value};
 ghost use Rattle.mm_run.specs.WordForms.{SaysForm};
 
-use mm_forms::{Form, read_words};
+use mm_arguments::{Form, read_words};
 use mm_types::NoMemory;
 use std::alloc::Global;
 

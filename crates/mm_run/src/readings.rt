@@ -3,7 +3,7 @@ ghost use Rattle.mm_types.specs.{Event};
 ghost use Rattle.mm_script.specs.{IsLine, IsWellFormed};
 ghost use Rattle.mm_run.specs.{IsLaterEvent, IsMisplaced, reading_of, is_machine_word};
 
-use mm_core::is_machine;
+use mm_dispatch::is_machine;
 use mm_script::{parse_into, parse_line, without_return};
 use mm_types::Event;
 

@@ -3,14 +3,14 @@ ghost use Rattle.mm_types.specs.{decimal};
 ghost use Rattle.mm_io.specs.{CountsFaults};
 ghost use Rattle.mm_run.specs.{IsScriptOf, IsComplete, IsFault, IsRunForm, RanOrRefused, ToldText, last_text, Closed, is_over, IsAccounted, IsBulk};
 ghost use Rattle.mm_run.specs.{IsNoBulk, BulkRanOrRefused, counts_seen, open_failed, seen, sink_seen};
-ghost use Rattle.mm_make.specs.{script_of};
+ghost use Rattle.mm_generate.specs.{script_of};
 
 use crate::answers::Kept;
 use crate::bulk::bulk;
 use crate::endings::Ending;
 use crate::forms::{WordsForm, words_form};
 use crate::machines::decide_all;
-use mm_blocks::Blocks;
+use mm_devices::Blocks;
 use mm_io::{Sink, Source, write_all};
 use mm_text::{LineBuf, put_decimal};
 use mm_types::{Failed, NoMemory};
@@ -135,7 +135,7 @@ fn run_lines<S: Source, O: Sink, M: Sink, P: Blocks, F: Blocks>(
 /// `moves` failed, 7 where a device failed as it was opened, 8 at a line that is too long. The
 /// words are read first, once.
 ///
-/// Where the words are `bulk SEED COUNT` the lines are the events of `mm_make`'s script of these
+/// Where the words are `bulk SEED COUNT` the lines are the events of `mm_generate`'s script of these
 /// two numbers, and nothing is read; their answers are not written, but how many there are, how
 /// many of them begin with `ok`, how many are `none`, and the charge at the end with its limit.
 ///

@@ -8,7 +8,7 @@ use Rattle.mm_types.specs.{Frame, Move}
 use Rattle.mm_types.specs.declared.moves.LineKind.TheVariants as kind
 use Rattle.mm_types.specs.declared.moves.Stored.TheVariants as stored
 use Rattle.mm_types.specs.declared.moves.Move.TheVariants as move
-use Rattle.mm_life.specs.{FrameLife, record_at, is_legal, may_unmap}
+use Rattle.mm_move_rules.specs.{FrameLife, record_at, is_legal, may_unmap}
 use Rattle.mm_sentences.specs.{holds, parts_of, first_failing, refusal, is_tested, are_tested, all_hold, Part}
 use Rattle.mm_sentences.specs.declared.parts.Part.TheVariants as part
 

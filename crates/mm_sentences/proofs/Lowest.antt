@@ -2,7 +2,7 @@
 use Rattle.std.proofs.Common.{◌≡◌, ℕ, zero, suc, ◌+◌, ◌<◌, Bool, true, false, ◌&&◌, List, [], ◌∷◌, drop, refl, sym, ap, ◌∙◌, ◌≤◌, ◌-◌, arith}
 use Rattle.std.specs.Prelude.{not, slice_index_or}
 use Rattle.std.proofs.lemmas.Bool.{false≢true}
-use Rattle.mm_life.specs.{is_lowest}
+use Rattle.mm_move_rules.specs.{is_lowest}
 use Rattle.mm_sentences.specs.{none_free}
 
 swapped : (a b c : Bool) → (a && (b && c)) ≡ (b && (a && c))

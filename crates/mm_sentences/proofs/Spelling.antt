@@ -1,7 +1,7 @@
 -- A move's line without its line feed.
 use Rattle.std.proofs.Common.{◌≡◌, ◌+◌, ◌-◌, [], ◌∷◌, ◌++◌, length, take, refl, ap, ◌∙◌, arith, length-append}
 use Rattle.mm_types.specs.{Text, Move}
-use Rattle.mm_life.specs.{move_text, spelling_of_move}
+use Rattle.mm_move_rules.specs.{move_text, spelling_of_move}
 use Rattle.mm_replay.proofs.{move_onto-is}
 
 front : (a : Text) → take (length a) (a ++ 10 ∷ []) ≡ a

@@ -4,7 +4,7 @@ use Rattle.std.specs.Prelude.{◌==◌, slice_get, codes}
 use Rattle.std.proofs.lemmas.Bool.{eq-eqb, ne_eqb}
 use Rattle.std.proofs.lemmas.Option.{same_Some, none-some}
 use Rattle.mm_types.specs.{Frame, Text}
-use Rattle.mm_life.specs.{FrameTable, is_on, is_first}
+use Rattle.mm_move_rules.specs.{FrameTable, is_on, is_first}
 use Rattle.mm_sentences.specs.{first_is, counted_words}
 use Rattle.mm_replay.specs.{frame_at, frames_on, IsBehind, frame}
 use Rattle.mm_replay.specs.declared.four_lists.FrameList.TheVariants as list

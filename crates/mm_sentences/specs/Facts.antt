@@ -4,7 +4,7 @@ use Rattle.mm_types.specs.{Frame, Key, Slot, Record, Held, Move, Stored}
 use Rattle.mm_types.specs.declared.frames.Held.TheVariants as held
 use Rattle.mm_types.specs.declared.moves.Move.TheVariants as move
 use Rattle.mm_types.specs.declared.moves.Stored.TheVariants as stored
-use Rattle.mm_life.specs.{record_at, FrameLife, home_at}
+use Rattle.mm_move_rules.specs.{record_at, FrameLife, home_at}
 use Rattle.mm_sentences.specs.declared.facts.Facts.{Facts}
 
 abbrev pub slot_in : Held → Option Slot

@@ -6,10 +6,10 @@ use Rattle.mm_types.specs.{limit_of, Block, Frame, Key, Place, Record, LineKind,
 use Rattle.mm_types.specs.declared.moves.LineKind.TheVariants as kind
 use Rattle.mm_types.specs.declared.moves.Stored.TheVariants as stored
 use Rattle.mm_types.specs.declared.moves.Move.TheVariants as move
-use Rattle.mm_life.specs.{record_at, is_first, is_empty, is_on, has_request, is_read, is_write, is_again, FrameLife, set_of, is_shared, is_live}
-use Rattle.mm_life.specs.{is_call, is_io, is_access, is_thread, is_unbind, is_writer, is_zeroer, is_touch, touches, is_valid_machine, has_depth}
-use Rattle.mm_life.specs.{is_zero, is_stored, owner_is, may_copy, is_unmapped, fits_place, is_below_max, may_unmap, is_block, is_lowest}
-use Rattle.mm_life.specs.{may_write_block}
+use Rattle.mm_move_rules.specs.{record_at, is_first, is_empty, is_on, has_request, is_read, is_write, is_again, FrameLife, set_of, is_shared, is_live}
+use Rattle.mm_move_rules.specs.{is_call, is_io, is_access, is_thread, is_unbind, is_writer, is_zeroer, is_touch, touches, is_valid_machine, has_depth}
+use Rattle.mm_move_rules.specs.{is_zero, is_stored, owner_is, may_copy, is_unmapped, fits_place, is_below_max, may_unmap, is_block, is_lowest}
+use Rattle.mm_move_rules.specs.{may_write_block}
 use Rattle.mm_sentences.specs.declared.parts.Part.{Part}
 use Rattle.mm_sentences.specs.declared.parts.Part.TheVariants as part
 

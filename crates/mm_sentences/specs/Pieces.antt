@@ -1,7 +1,7 @@
 -- A sentence as its words and names, one after another.
 use Rattle.std.specs.Prelude.{Bool, [], ◌++◌}
 use Rattle.mm_types.specs.{Text}
-use Rattle.mm_life.specs.{FrameLife}
+use Rattle.mm_move_rules.specs.{FrameLife}
 use Rattle.mm_sentences.specs.declared.facts.Facts.{Facts}
 use Rattle.mm_sentences.specs.declared.sentences.Name.{Name}
 use Rattle.mm_sentences.specs.declared.sentences.Name.TheVariants as name

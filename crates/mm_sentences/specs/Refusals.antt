@@ -5,8 +5,8 @@ use Rattle.std.specs.Prelude.{length, codes, Option, Some, None}
 use Rattle.mm_types.specs.{Text, decimal, limit_of, Frame, Key, Place, Held, Move}
 use Rattle.mm_types.specs.declared.frames.Held.TheVariants as held
 use Rattle.std.specs.Prelude.{slice_index_or}
-use Rattle.mm_life.specs.{ResidentSet, record_at, is_empty, is_on, is_read, FrameLife, set_of, is_live, is_access, is_thread, is_touch, is_writer}
-use Rattle.mm_life.specs.{touches, trims, place_onto, move_text}
+use Rattle.mm_move_rules.specs.{ResidentSet, record_at, is_empty, is_on, is_read, FrameLife, set_of, is_live, is_access, is_thread, is_touch, is_writer}
+use Rattle.mm_move_rules.specs.{touches, trims, place_onto, move_text}
 use Rattle.mm_replay.specs.{FrameList}
 use Rattle.mm_replay.specs.declared.four_lists.FrameList.TheVariants as list
 use Rattle.mm_sentences.specs.Words.{key_text, kind_text}

@@ -3,8 +3,8 @@ use Rattle.std.specs.Prelude.{Bool, ◌==◌, bytes_eq, if◌then◌else◌, [],
 use Rattle.std.specs.Prelude.{Some, None}
 use Rattle.mm_types.specs.{Text, decimal, Block, Frame, Key, Place, Slot, Held}
 use Rattle.mm_types.specs.declared.frames.Held.TheVariants as held
-use Rattle.mm_life.specs.{FrameLife}
-use Rattle.mm_classes.specs.{sentence_of, Class}
+use Rattle.mm_move_rules.specs.{FrameLife}
+use Rattle.mm_move_classes.specs.{sentence_of, Class}
 use Rattle.mm_sentences.specs.declared.facts.Facts.{Facts}
 use Rattle.mm_sentences.specs.declared.states.FrameState.{FrameState}
 use Rattle.mm_sentences.specs.declared.states.FrameState.TheVariants as state

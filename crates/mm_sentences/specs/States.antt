@@ -4,7 +4,7 @@ use Rattle.std.specs.Prelude.{Option, Some, None}
 use Rattle.mm_types.specs.{Text, decimal, Key, Record, Backing, Request}
 use Rattle.mm_types.specs.declared.frames.Backing.TheVariants as backing
 use Rattle.mm_types.specs.declared.frames.Request.TheVariants as request
-use Rattle.mm_life.specs.{FrameTable, record_at, is_on, is_read, has_request, FrameLife}
+use Rattle.mm_move_rules.specs.{FrameTable, record_at, is_on, is_read, has_request, FrameLife}
 use Rattle.mm_sentences.specs.declared.states.FrameState.{FrameState}
 use Rattle.mm_sentences.specs.declared.states.FrameState.TheVariants as state
 use Rattle.mm_sentences.specs.Words.{key_text}

@@ -1,7 +1,7 @@
 -- The parts that are tested one by one: all but the last of each move.
 use Rattle.std.specs.Prelude.{ℕ, zero, suc, not, Bool, true, false, ◌&&◌, List, [], ◌∷◌}
 use Rattle.std.specs.List.{list_all}
-use Rattle.mm_life.specs.{FrameLife}
+use Rattle.mm_move_rules.specs.{FrameLife}
 use Rattle.mm_sentences.specs.Parts.{holds}
 use Rattle.mm_sentences.specs.declared.parts.Part.{Part}
 use Rattle.mm_sentences.specs.declared.parts.Part.TheVariants as part

@@ -3,7 +3,7 @@ use Rattle.std.specs.Prelude.{ℕ, ◌*◌, ◌^◌, Bool, true, false, nat_lt, 
 use Rattle.std.specs.Prelude.{codes}
 use Rattle.mm_types.specs.{Text, Key, Place, LineKind}
 use Rattle.mm_text.specs.{hex_short}
-use Rattle.mm_life.specs.{key_onto, place_onto, kind_onto}
+use Rattle.mm_move_rules.specs.{key_onto, place_onto, kind_onto}
 
 -- `p1.17`, `s0.3`
 abbrev pub key_text : Key → Text

@@ -1,5 +1,5 @@
 ghost use Rattle.std.specs.Prelude.{◌≡◌};
-ghost use Rattle.mm_life.specs.{home_at};
+ghost use Rattle.mm_move_rules.specs.{home_at};
 ghost use Rattle.mm_replay.specs.Standing.{life as life_of};
 ghost use Rattle.mm_sentences.specs.Facts.{slot_in, home_of, facts_away, facts_in, frame_facts};
 ghost use Rattle.mm_sentences.specs.Facts.{facts_held, key_facts, valid_facts, no_facts, facts_of};

@@ -1,6 +1,6 @@
 ghost use Rattle.std.specs.Prelude.{◌≡◌, false, Some};
 ghost use Rattle.mm_types.specs.{Move};
-ghost use Rattle.mm_life.specs.{is_legal, FrameLife};
+ghost use Rattle.mm_move_rules.specs.{is_legal, FrameLife};
 ghost use Rattle.mm_sentences.specs.{holds, parts_of, refusal, all_hold, Part};
 
 /// A move is legal exactly where each part of its condition holds, and the part that is told fails.

@@ -2,7 +2,7 @@ ghost use Rattle.std.specs.Prelude.{◌≡◌, ◌+◌, ◌<◌, ◌^◌, ◌++�
 ghost use Rattle.mm_types.specs.{decimal};
 ghost use Rattle.mm_replay.specs.Standing.{life as life_of};
 ghost use Rattle.mm_replay.specs.{frames_on};
-ghost use Rattle.mm_life.specs.{is_read, set_of, move_text, place_onto};
+ghost use Rattle.mm_move_rules.specs.{is_read, set_of, move_text, place_onto};
 ghost use Rattle.mm_sentences.specs.{name_of_list, about, counted_words, line_is, frame_is, page_is, place_is, first_is, not_first, not_empty};
 ghost use Rattle.mm_sentences.specs.{depth_is, stands_in, mapped_at, holds_what, pages_are, set_is, no_process, at_max, at_min, keeps_place};
 ghost use Rattle.mm_sentences.specs.{no_paging, request_is, not_lowest, not_modified, keeps_block, part_text, part_words, refusal_text, why_text};
@@ -14,9 +14,9 @@ use crate::states::{FrameState, state_text};
 use crate::words::{
     put_counted, put_key, put_kind, put_number, put_numbered, put_place, put_words,
 };
-use mm_classes::{is_access, is_read, is_thread, is_touch, is_writer, touches, trims};
-use mm_life::ResidentSet;
-use mm_moves::spell;
+use mm_move_classes::{is_access, is_read, is_thread, is_touch, is_writer, touches, trims};
+use mm_move_rules::ResidentSet;
+use mm_log_writer::spell;
 use mm_replay::{FrameList, Life};
 use mm_text::LineBuf;
 use mm_types::{Block, Frame, Held, Key, Move, NoMemory, Pid, Place, Request, Slot};

@@ -1,14 +1,14 @@
 ghost use Rattle.std.specs.Prelude.{◌≡◌, ◌∷◌, ◌++◌, [], true, false, Some, is_none};
 ghost use Rattle.mm_types.specs.declared.moves.Move.TheVariants as move;
 ghost use Rattle.mm_types.specs.{limit_of};
-ghost use Rattle.mm_life.specs.{is_first, is_zero, is_stored, owner_is, fits_place, is_block, is_lowest, is_legal, is_shared};
+ghost use Rattle.mm_move_rules.specs.{is_first, is_zero, is_stored, owner_is, fits_place, is_block, is_lowest, is_legal, is_shared};
 ghost use Rattle.mm_replay.specs.{frames_on};
 ghost use Rattle.mm_replay.specs.Standing.{life as life_of};
 ghost use Rattle.mm_sentences.specs.{holds, parts_of, first_failing, is_clean, refusal, is_tested, are_tested, all_hold, none_free};
 ghost use Rattle.mm_sentences.specs.declared.parts.Part.TheVariants as part;
 
 use crate::parts::Part;
-use mm_classes::{has_request, is_again, is_call, is_read, is_unbind, is_write, touches};
+use mm_move_classes::{has_request, is_again, is_call, is_read, is_unbind, is_write, touches};
 use mm_replay::{FrameList, Life};
 use mm_types::{
     Backing, Block, Frame, Held, Key, LineKind, Move, Place, Record, Request, Slot, Stored,

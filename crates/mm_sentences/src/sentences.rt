@@ -1,5 +1,5 @@
 ghost use Rattle.std.specs.Prelude.{◌≡◌, ◌++◌, Bool, OnOk, codes, flat_map};
-ghost use Rattle.mm_life.specs.{FrameLife};
+ghost use Rattle.mm_move_rules.specs.{FrameLife};
 ghost use Rattle.mm_replay.specs.Standing.{life as life_of};
 ghost use Rattle.mm_sentences.specs.Sentences.{page_text, frame_text, at_text, process_text};
 ghost use Rattle.mm_sentences.specs.Sentences.{block_text, home_text, unslot_text, freed_slot};
@@ -10,7 +10,7 @@ ghost use Rattle.mm_sentences.specs.Pieces.{name_text, piece_text};
 use crate::facts::Facts;
 use crate::states::{FrameState, put_state, state_of};
 use crate::words::{put_counted, put_key, put_number, put_numbered, put_place, put_words};
-use mm_classes::Class;
+use mm_move_classes::Class;
 use mm_replay::Life;
 use mm_types::{Block, Frame, Held, Key, NoMemory, Place, Slot};
 

@@ -1,13 +1,13 @@
 ghost use Rattle.std.specs.Prelude.{◌≡◌, ◌++◌, OnOk, codes};
 ghost use Rattle.mm_types.specs.{decimal};
-ghost use Rattle.mm_life.specs.{record_at, is_on};
+ghost use Rattle.mm_move_rules.specs.{record_at, is_on};
 ghost use Rattle.mm_replay.specs.Standing.{life as life_of};
 ghost use Rattle.mm_sentences.specs.States.{list_of, state_by, state_of, state_text, owner_text};
 ghost use Rattle.mm_sentences.specs.States.{changed_text, copy_text, request_text, listed_text, frame_row_text};
 ghost use Rattle.mm_sentences.specs.States.{frame_row};
 
 use crate::words::{put_counted, put_key, put_numbered, put_words};
-use mm_classes::{has_request, is_read};
+use mm_move_classes::{has_request, is_read};
 use mm_replay::{FrameList, Life};
 use mm_types::{Backing, Frame, Key, NoMemory, Record, Request};
 

@@ -1,6 +1,6 @@
 ghost use Rattle.std.specs.Prelude.{◌≡◌, ◌<◌, ◌^◌, ◌++◌, ◌∷◌, [], OnOk, codes};
 ghost use Rattle.mm_types.specs.{decimal, glyph};
-ghost use Rattle.mm_life.specs.{numbered, kind_onto, place_onto};
+ghost use Rattle.mm_move_rules.specs.{numbered, kind_onto, place_onto};
 ghost use Rattle.mm_text.specs.{hex_short};
 ghost use Rattle.mm_sentences.specs.{key_text, kind_text, address_text, addressed, place_text};
 ghost use Rattle.mm_types.specs.declared.moves.LineKind.TheVariants as kind_of;

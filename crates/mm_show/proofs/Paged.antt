@@ -1,11 +1,11 @@
 -- The page that is still to come, where one more move was taken and where none comes.
 use Rattle.std.proofs.Common.{◌≡◌, Bool, true, false, List, [], ◌∷◌, ◌++◌, Option, Some, refl, sym, ap, ◌∙◌, append_assoc}
 use Rattle.mm_types.specs.{Text, Move}
-use Rattle.mm_life.specs.{FrameLife, after_move}
-use Rattle.mm_classes.specs.{MarksOf, marks_after, marks_of, class_of, next_of, Class, move_data, data_from, mark_before}
-use Rattle.mm_tell.specs.{pending, class_then, move_of, Pending}
+use Rattle.mm_move_rules.specs.{FrameLife, after_move}
+use Rattle.mm_move_classes.specs.{MarksOf, marks_after, marks_of, class_of, next_of, Class, move_data, data_from, mark_before}
+use Rattle.mm_log_walk.specs.{pending, class_then, move_of, Pending}
 use Rattle.mm_show.specs.{classed_data, data_rest, page_rest, PageTeller}
-use Rattle.mm_tell.proofs.{class_known}
+use Rattle.mm_log_walk.proofs.{class_known}
 
 -- the data that comes
 module _ (l : FrameLife) (v : MarksOf) (p : Option Pending) (m : Move) where

@@ -5,11 +5,11 @@ use Rattle.std.proofs.lemmas.List.Sums.{sum_by-cons}
 use Rattle.std.proofs.lemmas.Bool.{eqb-true, eqb-false}
 use Rattle.mm_types.specs.{Text, Move, LineKind}
 use Rattle.mm_types.specs.declared.moves.Move.TheVariants as move
-use Rattle.mm_life.specs.{FrameLife, unstarted, after_move}
-use Rattle.mm_classes.specs.{MarksOf, no_marks, marks_after, classes, is_class, class_count, kind_code, code_of, Class}
-use Rattle.mm_tell.specs.{pending, class_then, move_of, class_list, classes_rest, Pending}
+use Rattle.mm_move_rules.specs.{FrameLife, unstarted, after_move}
+use Rattle.mm_move_classes.specs.{MarksOf, no_marks, marks_after, classes, is_class, class_count, kind_code, code_of, Class}
+use Rattle.mm_log_walk.specs.{pending, class_then, move_of, class_list, classes_rest, Pending}
 use Rattle.mm_show.specs.{is_kind, class_sums, kind_sums, sums_text, code_count, sums_left, of_class, of_kind, AreFew}
-use Rattle.mm_tell.proofs.{classes_taken}
+use Rattle.mm_log_walk.proofs.{classes_taken}
 
 bumped : (xs : List ℕ) (i k : ℕ) → i < length xs → get_or (set xs i (get_or xs i 0 + 1)) k 0 ≡ cond (i == k) 1 0 + get_or xs k 0
 bumped xs i k h = pick (i == k) refl

@@ -2,7 +2,7 @@
 -- Profile, "What a log shows".
 use Rattle.std.specs.Prelude.{ℕ, ◌+◌, ◌^◌, ◌<◌, ◌≤◌, List, Option, count_by, slice_index}
 use Rattle.mm_types.specs.{Move}
-use Rattle.mm_classes.specs.{class_count, code_of, Class}
+use Rattle.mm_move_classes.specs.{class_count, code_of, Class}
 use Rattle.mm_show.specs.Sums.{is_kind}
 
 -- the numbers by code

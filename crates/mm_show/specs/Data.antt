@@ -2,9 +2,9 @@
 -- Profile, "What a log shows".
 use Rattle.std.specs.Prelude.{List, [], ◌++◌, Option, Some, None}
 use Rattle.mm_types.specs.{Text, Move}
-use Rattle.mm_life.specs.{FrameLife}
-use Rattle.mm_classes.specs.{MarksOf, next_of, data_from, move_data}
-use Rattle.mm_tell.specs.{class_then, move_of, Pending, Classed}
+use Rattle.mm_move_rules.specs.{FrameLife}
+use Rattle.mm_move_classes.specs.{MarksOf, next_of, data_from, move_data}
+use Rattle.mm_log_walk.specs.{class_then, move_of, Pending, Classed}
 
 abbrev pub classed_data : Option Classed → Text
 classed_data None = []

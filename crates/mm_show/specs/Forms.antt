@@ -9,7 +9,7 @@ use Rattle.std.specs.List.{list_any}
 use Rattle.mm_types.specs.{Text, Key}
 use Rattle.mm_types.specs.declared.numbers.Key.TheVariants.{Private, Shared}
 use Rattle.mm_text.specs.{number_of}
-use Rattle.mm_forms.specs.{is_dashed}
+use Rattle.mm_arguments.specs.{is_dashed}
 use Rattle.mm_show.specs.declared.forms.Form.{Form}
 use Rattle.mm_show.specs.declared.forms.Form.TheVariants as form
 use Rattle.mm_show.specs.declared.forms.Files.{Files}

@@ -2,8 +2,8 @@
 -- Profile, "What a log shows".
 use Rattle.std.specs.Prelude.{Bool, true, false, List, [], ◌++◌}
 use Rattle.mm_types.specs.{Text, Move}
-use Rattle.mm_life.specs.{FrameLife}
-use Rattle.mm_classes.specs.{marks_of}
+use Rattle.mm_move_rules.specs.{FrameLife}
+use Rattle.mm_move_classes.specs.{marks_of}
 use Rattle.mm_show.specs.Data.{data_rest}
 use Rattle.mm_show.specs.declared.data.PageTeller.{PageTeller}
 

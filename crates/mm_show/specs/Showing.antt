@@ -3,9 +3,9 @@
 use Rattle.std.specs.Prelude.{◌≡◌, ◌⊎◌, ℕ, Bool, true, false, List, [], ◌∷◌, ◌++◌, Option, Some}
 use Rattle.std.specs.Prelude.{None, codes}
 use Rattle.mm_types.specs.{Text, Rose, Move}
-use Rattle.mm_classes.specs.{log_data}
-use Rattle.mm_log.specs.{Shows, IsRefusedLog}
-use Rattle.mm_tell.specs.{lines_of, total_of, shown_file, answer_file, Said, Why, no_why}
+use Rattle.mm_move_classes.specs.{log_data}
+use Rattle.mm_log_check.specs.{Shows, IsRefusedLog}
+use Rattle.mm_log_walk.specs.{lines_of, total_of, shown_file, answer_file, Said, Why, no_why}
 use Rattle.mm_sentences.specs.{why_text}
 use Rattle.mm_uses.specs.{counts_rows, use_rows, state_rows}
 use Rattle.mm_faults.specs.{fault_rows}

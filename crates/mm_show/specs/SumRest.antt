@@ -2,9 +2,9 @@
 -- Profile, "What a log shows".
 use Rattle.std.specs.Prelude.{ℕ, Bool, true, false, List, [], ◌++◌, Option}
 use Rattle.mm_types.specs.{Text, Move}
-use Rattle.mm_life.specs.{FrameLife}
-use Rattle.mm_classes.specs.{MarksOf, marks_of}
-use Rattle.mm_tell.specs.{classes_rest, Pending}
+use Rattle.mm_move_rules.specs.{FrameLife}
+use Rattle.mm_move_classes.specs.{MarksOf, marks_of}
+use Rattle.mm_log_walk.specs.{classes_rest, Pending}
 use Rattle.mm_show.specs.Counted.{of_class, of_kind}
 use Rattle.mm_show.specs.Sums.{class_sums, kind_sums}
 use Rattle.mm_show.specs.declared.sums.SumTeller.{SumTeller}

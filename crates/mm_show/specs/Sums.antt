@@ -5,7 +5,7 @@ use Rattle.std.specs.Prelude.{◌++◌, flat_map}
 use Rattle.std.specs.Prelude.{count_by, codes}
 use Rattle.mm_types.specs.{Text, decimal, Move}
 use Rattle.mm_types.specs.declared.moves.Move.TheVariants as move
-use Rattle.mm_classes.specs.{classes, class_count, kind_code, code_of, Class}
+use Rattle.mm_move_classes.specs.{classes, class_count, kind_code, code_of, Class}
 use Rattle.mm_show.specs.Words.{all_classes}
 use Rattle.mm_show.specs.declared.sums.KindName.{KindName}
 use Rattle.mm_show.specs.declared.sums.KindName.TheVariants as kind

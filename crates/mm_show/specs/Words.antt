@@ -2,9 +2,9 @@
 -- Profile, "What a log shows".
 use Rattle.std.specs.Prelude.{List, [], ◌∷◌, ◌++◌, flat_map, codes, Option, Some, None}
 use Rattle.mm_types.specs.{Text}
-use Rattle.mm_classes.specs.{code_of, group_of, sentence_of, Class, Group}
-use Rattle.mm_classes.specs.declared.classes.Class.TheVariants as class
-use Rattle.mm_classes.specs.declared.classes.Group.TheVariants as group
+use Rattle.mm_move_classes.specs.{code_of, group_of, sentence_of, Class, Group}
+use Rattle.mm_move_classes.specs.declared.classes.Class.TheVariants as class
+use Rattle.mm_move_classes.specs.declared.classes.Group.TheVariants as group
 
 -- the classes, in the order in which they are told
 abbrev pub all_classes : List Class

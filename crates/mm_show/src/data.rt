@@ -1,15 +1,15 @@
 ghost use Rattle.std.specs.Prelude.{◌≡◌, ◌++◌, [], ◌∷◌, List, OnOk, true, if◌then◌else◌};
 ghost use Rattle.mm_types.specs.{Move};
-ghost use Rattle.mm_life.specs.{unstarted, counts_of};
+ghost use Rattle.mm_move_rules.specs.{unstarted, counts_of};
 ghost use Rattle.mm_replay.specs.Standing.{life as life_of};
-ghost use Rattle.mm_classes.specs.{log_data, is_marked, mark_before, last_mark, mark_data};
+ghost use Rattle.mm_move_classes.specs.{log_data, is_marked, mark_before, last_mark, mark_data};
 ghost use Rattle.mm_show.specs.Data.{classed_data};
 ghost use Rattle.mm_show.specs.PageRest.{page_rest};
-ghost use Rattle.mm_tell.specs.{no_why};
+ghost use Rattle.mm_log_walk.specs.{no_why};
 
-use mm_classes::{put_mark, put_move};
+use mm_move_classes::{put_mark, put_move};
 use mm_replay::Life;
-use mm_tell::{Classed, Classifier, Teller};
+use mm_log_walk::{Classed, Classifier, Teller};
 use mm_text::LineBuf;
 use mm_types::{Move, NoMemory};
 use std::alloc::Global;

@@ -1,13 +1,13 @@
 ghost use Rattle.std.specs.Prelude.{◌≡◌, map, option_map, string_bytes, IfOk};
 ghost use Rattle.mm_text.specs.{number_of};
-ghost use Rattle.mm_forms.specs.{texts};
+ghost use Rattle.mm_arguments.specs.{texts};
 ghost use Rattle.mm_show.specs.declared.forms.Form.TheVariants as form;
 ghost use Rattle.mm_show.specs.Forms.{word_at, files_beside, alone, form_in, form_of};
 ghost use Rattle.mm_show.specs.Forms.{with_one, counts_with, line_asked_for};
 ghost use Rattle.mm_show.specs.Forms.{key_of};
 
 use crate::keys::{key, line};
-use mm_forms::read_words;
+use mm_arguments::read_words;
 use mm_script::is_text;
 use mm_text::number;
 use mm_types::{Key, NoMemory};
@@ -185,12 +185,12 @@ fn form_in(name: &[u8], values: &[&str]) -> Option<Form>
 }
 
 /// A name, and between how many values may stand behind it.
-fn words_form(name: &'static str, least: usize, most: usize) -> mm_forms::Form<'static>
+fn words_form(name: &'static str, least: usize, most: usize) -> mm_arguments::Form<'static>
     ensures name { result.name.now ≡ name.entry.now }
     ensures least { result.least ≡ least }
     ensures most { result.most ≡ most }
 {
-    mm_forms::Form { name, least, most }
+    mm_arguments::Form { name, least, most }
 }
 
 /// What the words ask, where they are a form. An `Err` is memory that was refused.

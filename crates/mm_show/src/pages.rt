@@ -1,10 +1,10 @@
 ghost use Rattle.std.specs.Prelude.{◌≡◌, ◌++◌, IfOk, true, List};
 ghost use Rattle.mm_types.specs.{Move};
-ghost use Rattle.mm_life.specs.{unstarted};
+ghost use Rattle.mm_move_rules.specs.{unstarted};
 
 use crate::data::PageTeller;
 use crate::words::put_classes;
-use mm_tell::{Lines, put_answers, put_file};
+use mm_log_walk::{Lines, put_answers, put_file};
 use mm_types::NoMemory;
 use std::alloc::Global;
 

@@ -2,10 +2,10 @@ ghost use Rattle.std.specs.Prelude.{◌≡◌, ◌≤◌, ◌<◌, ◌+◌, ◌^
 ghost use Rattle.std.specs.Prelude.{OnOk, true, flat_map, replicate, slice_index, slice_set};
 ghost use Rattle.std.specs.Prelude.{length};
 ghost use Rattle.mm_types.specs.{Move};
-ghost use Rattle.mm_life.specs.{unstarted};
+ghost use Rattle.mm_move_rules.specs.{unstarted};
 ghost use Rattle.mm_replay.specs.Standing.{life as life_of};
-ghost use Rattle.mm_classes.specs.{Class};
-ghost use Rattle.mm_tell.specs.{class_list};
+ghost use Rattle.mm_move_classes.specs.{Class};
+ghost use Rattle.mm_log_walk.specs.{class_list};
 ghost use Rattle.mm_show.specs.Sums.{sum_row, class_row, kind_row, class_sums, kind_sums};
 ghost use Rattle.mm_show.specs.Sums.{kind_text, kind_letter};
 ghost use Rattle.mm_show.specs.Sums.{sums_text, code_count};
@@ -13,10 +13,10 @@ ghost use Rattle.mm_show.specs.Counted.{of_class, of_kind, AreFew};
 ghost use Rattle.mm_sentences.specs.{why_text};
 
 use crate::words::CLASSES;
-use mm_classes::{Class, code, kind_code};
+use mm_move_classes::{Class, code, kind_code};
 use mm_replay::Life;
 use mm_sentences::put_why;
-use mm_tell::{Classed, Classifier, Teller};
+use mm_log_walk::{Classed, Classifier, Teller};
 use mm_text::{LineBuf, put_decimal};
 use mm_types::{Move, NoMemory};
 use std::alloc::Global;

@@ -1,8 +1,8 @@
 ghost use Rattle.std.specs.Prelude.{◌≡◌, ◌≢◌, ◌≤◌, ◌⊎◌, ◌++◌, ◌∷◌, [], ℕ, List, Option, OnOk, true};
 ghost use Rattle.std.specs.Prelude.{Some, map, option_map, string_bytes, None};
 ghost use Rattle.mm_types.specs.{Rose};
-ghost use Rattle.mm_log.specs.{IsFaultStatus, Shows, IsRefusedLog};
-ghost use Rattle.mm_tell.specs.{Answers, SaysExactly, total_of};
+ghost use Rattle.mm_log_check.specs.{IsFaultStatus, Shows, IsRefusedLog};
+ghost use Rattle.mm_log_walk.specs.{Answers, SaysExactly, total_of};
 ghost use Rattle.mm_show.specs.{Form, form_of, word_at, files_of, has_script, has_answers, form_said, form_why, FileIs, FileFailed, unread_text};
 ghost use Rattle.mm_show.specs.{IsUnread, usage_text, whole_page};
 
@@ -12,8 +12,8 @@ use crate::sums::SumTeller;
 use mm_faults::FaultTeller;
 use mm_histories::HistoryTeller;
 use mm_io::{Sink, Source};
-use mm_log::write_text;
-use mm_tell::{FileFault, Lines, answered, named_lines};
+use mm_log_check::write_text;
+use mm_log_walk::{FileFault, Lines, answered, named_lines};
 use mm_transcripts::TranscriptTeller;
 use mm_types::NoMemory;
 use mm_uses::{CountsTeller, StateTeller, UseTeller};

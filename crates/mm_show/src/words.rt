@@ -1,7 +1,7 @@
 ghost use Rattle.std.specs.Prelude.{◌≡◌, ◌++◌, OnOk, Some, None, flat_map};
 ghost use Rattle.mm_show.specs.{move_word, group_word, class_rows, class_words_row};
 
-use mm_classes::{Class, Group, code, group, sentence};
+use mm_move_classes::{Class, Group, code, group, sentence};
 use mm_types::NoMemory;
 
 /// The classes, in the order in which they are told.

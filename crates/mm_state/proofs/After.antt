@@ -6,12 +6,12 @@ use Rattle.mm_types.proofs.{same_or_not, get_set_same, get_within}
 use Rattle.mm_types.specs.{Frame, Key, Place, Record, Request}
 use Rattle.mm_types.specs.declared.frames.Request.TheVariants as request
 use Rattle.mm_types.specs.declared.moves.Move.TheVariants as move
-use Rattle.mm_life.specs.{ResidentSet, blank, record_at, is_read, is_write, is_again, is_first, is_empty, has_request, shared, unshared, soiled}
-use Rattle.mm_life.specs.{read_done, without_slot, FrameLife, set_in, set_of, with_resident, resident_by, IsLegal, owner_is, fits_place, touches}
-use Rattle.mm_life.specs.{is_touch, is_below_max, is_at_max, is_access, is_thread, is_io, is_zero, is_stored, has_depth, may_unmap, after_move}
-use Rattle.mm_life.specs.{after_unmap_at, backing_of}
-use Rattle.mm_laws.specs.{ReachedByMoves}
-use Rattle.mm_laws.proofs.{changes_give, changes_read, read_has, owner_passes, facts_of, stored_backed}
+use Rattle.mm_move_rules.specs.{ResidentSet, blank, record_at, is_read, is_write, is_again, is_first, is_empty, has_request, shared, unshared, soiled}
+use Rattle.mm_move_rules.specs.{read_done, without_slot, FrameLife, set_in, set_of, with_resident, resident_by, IsLegal, owner_is, fits_place, touches}
+use Rattle.mm_move_rules.specs.{is_touch, is_below_max, is_at_max, is_access, is_thread, is_io, is_zero, is_stored, has_depth, may_unmap, after_move}
+use Rattle.mm_move_rules.specs.{after_unmap_at, backing_of}
+use Rattle.mm_move_laws.specs.{ReachedByMoves}
+use Rattle.mm_move_laws.proofs.{changes_give, changes_read, read_has, owner_passes, facts_of, stored_backed}
 use Rattle.mm_parts.specs.{end_of_read}
 use Rattle.mm_frame_laws.specs.{IsSoiled, is_calm}
 use Rattle.mm_frame_laws.proofs.{others_set, here_set, records_ended, owned_low, asked_low, shown_calm}

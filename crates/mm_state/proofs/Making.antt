@@ -5,27 +5,27 @@ use Rattle.std.proofs.lemmas.Bool.{and_parts, and_from}
 use Rattle.mm_types.specs.{Frame, LineKind, Move, Key, Backing, Record}
 use Rattle.mm_types.specs.declared.moves.LineKind.TheVariants as kind
 use Rattle.mm_types.specs.declared.moves.Move.TheVariants as move
-use Rattle.mm_life.specs.{is_first, is_empty, FrameLife, IsLegal, is_zeroer, is_touch, Log, Grew, IsMove, spelling_of_move, after_move, FrameBytes}
-use Rattle.mm_life.specs.{BlockBytes, zero_page, contents_of, BytesLocated, spelled_moves, waits_after, ages_after, record_at, has_request, is_read}
-use Rattle.mm_life.specs.{is_write, is_io, is_access, is_call, home_at, frame_page, bytes_at}
+use Rattle.mm_move_rules.specs.{is_first, is_empty, FrameLife, IsLegal, is_zeroer, is_touch, Log, Grew, IsMove, spelling_of_move, after_move, FrameBytes}
+use Rattle.mm_move_rules.specs.{BlockBytes, zero_page, contents_of, BytesLocated, spelled_moves, waits_after, ages_after, record_at, has_request, is_read}
+use Rattle.mm_move_rules.specs.{is_write, is_io, is_access, is_call, home_at, frame_page, bytes_at}
 use Rattle.mm_parts.specs.{IsPlainLine, front, waits_of, PartsOf, end_of_read, write_end}
-use Rattle.mm_laws.specs.{ReachedByMoves, block_of}
+use Rattle.mm_move_laws.specs.{ReachedByMoves, block_of}
 use Rattle.mm_ram.specs.Ram as frames
 use Rattle.mm_ram.specs.{with_page}
 use Rattle.mm_frame_laws.specs.{Carries, slots_grown, slots_written, blocks_written}
 use Rattle.mm_frame_laws.proofs.{carries_clear, carries_got, carries_bad, carries_wrote, carries_lost, asked_low, home_bytes}
 use Rattle.mm_types.proofs.{append_nil}
-use Rattle.mm_blocks.specs.{DeviceOf, KeepsOthers}
-use Rattle.mm_blocks.proofs.{keeps_same, keeps_written}
-use Rattle.mm_pages.specs.{none_told, told_after, paging_traffic, file_traffic, with_write, in_slot, in_block}
-use Rattle.mm_pages.specs.Told.{Told}
-use Rattle.mm_moving.specs.{StateOf, Made, GrowBegins, Calls, DeviceCalled, backing_of_frame, written_if}
+use Rattle.mm_devices.specs.{DeviceOf, KeepsOthers}
+use Rattle.mm_devices.proofs.{keeps_same, keeps_written}
+use Rattle.mm_store.specs.{none_told, told_after, paging_traffic, file_traffic, with_write, in_slot, in_block}
+use Rattle.mm_store.specs.Told.{Told}
+use Rattle.mm_state_calls.specs.{StateOf, Made, GrowBegins, Calls, DeviceCalled, backing_of_frame, written_if}
 use Rattle.mm_state.specs.{joined_state, filled_if, read_told}
 use Rattle.mm_types.specs.declared.devices.Direction.TheVariants as way
 use Rattle.mm_types.specs.declared.frames.Backing.TheVariants as backing
-use Rattle.mm_laws.proofs.{read_has, write_has, facts_of}
-use Rattle.mm_flight.specs.{ended, Waiting as Wait}
-use Rattle.mm_life.proofs.{write_not_read}
+use Rattle.mm_move_laws.proofs.{read_has, write_has, facts_of}
+use Rattle.mm_requests.specs.{ended, Waiting as Wait}
+use Rattle.mm_move_rules.proofs.{write_not_read}
 use Rattle.mm_parts.proofs.{waits_ended}
 
 -- ---- what the conditions of moves say

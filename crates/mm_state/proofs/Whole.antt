@@ -5,23 +5,23 @@ use Rattle.std.proofs.lemmas.List.{length-replicate}
 use Rattle.mm_types.specs.{Key, Backing, Held, Frame, Place, Record}
 use Rattle.mm_types.specs.declared.frames.Backing.TheVariants as backing
 use Rattle.mm_types.specs.declared.frames.Held.TheVariants as held
-use Rattle.mm_life.specs.{FrameLife, FrameBytes, BlockBytes, frame_page, bytes_at, contents_of, held_at, zero_page, BytesLocated, Log, record_at}
-use Rattle.mm_life.specs.{is_read, is_dead}
-use Rattle.mm_blocks.specs.{empty_block, DeviceOf}
+use Rattle.mm_move_rules.specs.{FrameLife, FrameBytes, BlockBytes, frame_page, bytes_at, contents_of, held_at, zero_page, BytesLocated, Log, record_at}
+use Rattle.mm_move_rules.specs.{is_read, is_dead}
+use Rattle.mm_devices.specs.{empty_block, DeviceOf}
 use Rattle.mm_frame_laws.specs.{slots_written, blocks_written, Carries, IsSoiled}
-use Rattle.mm_moving.specs.{written_if}
+use Rattle.mm_state_calls.specs.{written_if}
 use Rattle.mm_state.specs.{AreWhole, joined_state, searched_anew, read_told, IsTallied}
 use Rattle.std.specs.Bool.{OnTrue, OnFalse}
 use Rattle.std.proofs.lemmas.Bool.{OnTrue_at, OnFalse_at, lt-ltb, eqb-true}
-use Rattle.mm_laws.specs.{ReachedByMoves, is_backed}
+use Rattle.mm_move_laws.specs.{ReachedByMoves, is_backed}
 use Rattle.mm_parts.specs.{PartsOf, Owners, named_by, names_of, valid_of, own_is}
-use Rattle.mm_pages.specs.Told.{Told}
+use Rattle.mm_store.specs.Told.{Told}
 use Rattle.mm_frame_laws.proofs.{carries_block, page_of_key, shown_calm, calm_is}
-use Rattle.mm_laws.proofs.{some_owner, facts_of}
+use Rattle.mm_move_laws.proofs.{some_owner, facts_of}
 use Rattle.mm_ram.specs.{bytes_of}
-use Rattle.mm_words.specs.{Entry, WordsOf, valid_frame}
-use Rattle.mm_words.specs.declared.layout.Entry.TheVariants as entry
-use Rattle.mm_pages.specs.{one_more, none_told, with_write}
+use Rattle.mm_page_tables.specs.{Entry, WordsOf, valid_frame}
+use Rattle.mm_page_tables.specs.declared.layout.Entry.TheVariants as entry
+use Rattle.mm_store.specs.{one_more, none_told, with_write}
 
 -- ---- blocks of whole pages: after a write, after growth, and the pages of keys
 

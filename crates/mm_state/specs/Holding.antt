@@ -8,23 +8,23 @@ use Rattle.mm_types.proofs.Booleans.{not_true}
 use Rattle.mm_types.proofs.Cells.{get_within}
 use Rattle.mm_types.specs.{Key, Place}
 use Rattle.mm_types.specs.declared.numbers.Key.TheVariants.{Private, Shared}
-use Rattle.mm_blocks.specs.declared.Inject.{Ghosts as DeviceGhosts}
-use Rattle.mm_moves.specs.{Ghosts as MovesGhosts}
-use Rattle.mm_life.specs.{record_at, is_read, same_place, ForFrame}
-use Rattle.mm_laws.proofs.PlaceCounts.{same_place-true}
-use Rattle.mm_flight.specs.{is_in, Waiting}
-use Rattle.mm_flight.specs.declared.flights.Waiting.TheVariants as waiting
-use Rattle.mm_words.specs.{Aside, Process, entry_or, bound_of, at_of, process_in, read_or, bound_in, at_in, AsideBound, bare, is_there, has_word}
-use Rattle.mm_words.specs.{key_entry, aside_or}
-use Rattle.mm_words.specs.declared.layout.Entry.TheVariants as entry
-use Rattle.mm_words.specs.declared.tables.Words.{Words}
-use Rattle.mm_words.specs.Shown as tables
-use Rattle.mm_words.proofs.SetLaws.{young, bound_open, begun, within}
+use Rattle.mm_devices.specs.declared.Inject.{Ghosts as DeviceGhosts}
+use Rattle.mm_log_writer.specs.{Ghosts as MovesGhosts}
+use Rattle.mm_move_rules.specs.{record_at, is_read, same_place, ForFrame}
+use Rattle.mm_move_laws.proofs.PlaceCounts.{same_place-true}
+use Rattle.mm_requests.specs.{is_in, Waiting}
+use Rattle.mm_requests.specs.declared.flights.Waiting.TheVariants as waiting
+use Rattle.mm_page_tables.specs.{Aside, Process, entry_or, bound_of, at_of, process_in, read_or, bound_in, at_in, AsideBound, bare, is_there, has_word}
+use Rattle.mm_page_tables.specs.{key_entry, aside_or}
+use Rattle.mm_page_tables.specs.declared.layout.Entry.TheVariants as entry
+use Rattle.mm_page_tables.specs.declared.tables.Words.{Words}
+use Rattle.mm_page_tables.specs.Shown as tables
+use Rattle.mm_page_tables.proofs.SetLaws.{young, bound_open, begun, within}
 use Rattle.mm_parts.specs.{PagesHold, StorageHolds, PartsKept, walked_or, waits_of, JoinedParts, own_is, Parts}
 use Rattle.mm_parts.specs.PartsShown as parts_of
 use Rattle.mm_parts.proofs.Holding.{pages_hold, storage_holds, read_once}
 use Rattle.mm_parts.proofs.RequestLists.{own_apart}
-use Rattle.mm_moving.specs.{StateHolds}
+use Rattle.mm_state_calls.specs.{StateHolds}
 use Rattle.mm_state.specs.declared.states.State.{State}
 use Rattle.mm_state.specs.StateShown.{shown_state}
 use Rattle.mm_state.specs.Storing.{stored_bytes}

@@ -1,12 +1,12 @@
 -- What parts, log, tallies and devices show together, and what a new state shows.
 use Rattle.std.specs.Prelude.{◌≡◌, ℕ, List, [], ◌∷◌, None}
 use Rattle.mm_types.specs.{MachineOf}
-use Rattle.mm_life.specs.{contents_of, Log, Grew, AreMoves, spelled_moves}
-use Rattle.mm_blocks.specs.{DeviceOf}
-use Rattle.mm_pages.specs.{none_told}
-use Rattle.mm_pages.specs.Told.{Told}
+use Rattle.mm_move_rules.specs.{contents_of, Log, Grew, AreMoves, spelled_moves}
+use Rattle.mm_devices.specs.{DeviceOf}
+use Rattle.mm_store.specs.{none_told}
+use Rattle.mm_store.specs.Told.{Told}
 use Rattle.mm_parts.specs.{PartsOf, waits_of, first_parts, first_move}
-use Rattle.mm_moving.specs.{StateOf}
+use Rattle.mm_state_calls.specs.{StateOf}
 
 abbrev pub joined_state : PartsOf → Log → Told → DeviceOf → DeviceOf → List (List ℕ) →
     List (List ℕ) →

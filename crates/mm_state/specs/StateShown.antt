@@ -1,11 +1,11 @@
 -- What a state shows.
 use Rattle.mm_types.specs.{Loans, Both}
-use Rattle.mm_blocks.specs.declared.Inject.{Ghosts as DeviceGhosts}
-use Rattle.mm_moves.specs.{Ghosts as MovesGhosts}
+use Rattle.mm_devices.specs.declared.Inject.{Ghosts as DeviceGhosts}
+use Rattle.mm_log_writer.specs.{Ghosts as MovesGhosts}
 use Rattle.mm_parts.specs.PartsShown as parts
 use Rattle.mm_state.specs.declared.states.State.{State}
-use Rattle.mm_moving.specs.{StateOf}
-use Rattle.mm_blocks.specs.{device_with}
+use Rattle.mm_state_calls.specs.{StateOf}
+use Rattle.mm_devices.specs.{device_with}
 use Rattle.mm_state.specs.Shown.{joined_state}
 
 module _ {P F M : Type 0} {p : DeviceGhosts P} {f : DeviceGhosts F} {m : MovesGhosts M} where

@@ -4,11 +4,11 @@ use Rattle.std.specs.Prelude.{is_some, if◌then◌else◌}
 use Rattle.mm_types.specs.{Frame, Key, Backing, Held}
 use Rattle.mm_types.specs.declared.frames.Backing.TheVariants as backing
 use Rattle.mm_types.specs.declared.frames.Held.TheVariants as held
-use Rattle.mm_life.specs.{record_at, is_read, FrameLife, home_at, FrameBytes, BlockBytes, zero_page, bytes_at, located, contents_of, BytesLocated}
-use Rattle.mm_laws.specs.{ReachedByMoves}
+use Rattle.mm_move_rules.specs.{record_at, is_read, FrameLife, home_at, FrameBytes, BlockBytes, zero_page, bytes_at, located, contents_of, BytesLocated}
+use Rattle.mm_move_laws.specs.{ReachedByMoves}
 use Rattle.mm_world.specs.{filled}
-use Rattle.mm_pages.specs.Standing as pages
-use Rattle.mm_laws.proofs.Facts.{facts_of}
+use Rattle.mm_store.specs.Standing as pages
+use Rattle.mm_move_laws.proofs.Facts.{facts_of}
 
 zero_filled : Some zero_page ≡ Some (filled 0)
 unfolding filled

@@ -2,8 +2,8 @@
 -- Profile, "Paging, as far as answers show it".
 use Rattle.std.specs.Prelude.{◌≡◌, ◌<◌, ◌+◌, ℕ, is_some, Bool, true, false, List, Option, slice_set}
 use Rattle.mm_types.specs.{Backing, Key}
-use Rattle.mm_pages.specs.{no_calls, with_read}
-use Rattle.mm_pages.specs.Told.{Told}
+use Rattle.mm_store.specs.{no_calls, with_read}
+use Rattle.mm_store.specs.Told.{Told}
 
 -- a search begins anew
 abbrev pub searched_anew : Told → Told

@@ -2,9 +2,9 @@ use crate::devices::{put_page, read_page, write_device};
 use crate::on_parts::{first_free, first_standby, read_move, reserve, write_move};
 use crate::states::State;
 use crate::tallies::Tallies;
-use mm_blocks::Inject;
-use mm_moves::Moves;
-use mm_moving::Moving;
+use mm_devices::Inject;
+use mm_log_writer::Moves;
+use mm_state_calls::Moving;
 use mm_types::{
     Area, Backing, Block, Counts, Device, Direction, Failed, Frame, GrowFault, Held, Key, LineKind,
     Machine, Move, NoMemory, OpenFault, Pid, Place, Record, Stored, Tid, Vpn, Wait,

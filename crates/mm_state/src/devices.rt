@@ -2,19 +2,19 @@ ghost use Rattle.std.specs.Prelude.{◌≡◌, ◌<◌, ℕ, true, Some, IsSome,
 ghost use Rattle.std.specs.Bool.{OnTrue, OnFalse};
 ghost use Rattle.mm_types.specs.declared.devices.Direction.TheVariants as way;
 ghost use Rattle.mm_types.specs.declared.moves.Move.TheVariants as move;
-ghost use Rattle.mm_life.specs.{slot_of, home_at, bytes_at, IsLegal};
-ghost use Rattle.mm_laws.specs.{is_backed, block_of};
-ghost use Rattle.mm_blocks.specs.{is_named, Serves, device_with};
+ghost use Rattle.mm_move_rules.specs.{slot_of, home_at, bytes_at, IsLegal};
+ghost use Rattle.mm_move_laws.specs.{is_backed, block_of};
+ghost use Rattle.mm_devices.specs.{is_named, Serves, device_with};
 ghost use Rattle.mm_frame_laws.specs.{slots_written, blocks_written};
-ghost use Rattle.mm_moving.specs.{CalledFor, written_if};
-ghost use Rattle.mm_flight.specs.{ended};
+ghost use Rattle.mm_state_calls.specs.{CalledFor, written_if};
+ghost use Rattle.mm_requests.specs.{ended};
 ghost use Rattle.mm_parts.specs.PartsShown as parts_of;
 ghost use Rattle.mm_parts.specs.{parts_after, own_ended, end_of_read};
 ghost use Rattle.mm_state.specs.{filled_if};
 ghost use Rattle.std.specs.Prelude.{[]};
 
 use crate::on_parts::read_from;
-use mm_blocks::Inject;
+use mm_devices::Inject;
 use mm_parts::Parts;
 use mm_types::{Backing, Failed, Frame};
 

@@ -1,14 +1,14 @@
 ghost use Rattle.std.specs.Prelude.{◌≡◌, ◌≤◌, ◌<◌, false, length, map, slice_get};
 ghost use Rattle.std.specs.Bool.{OnTrue};
-ghost use Rattle.mm_life.specs.{is_empty, IsLegal};
-ghost use Rattle.mm_flight.specs.{ended};
+ghost use Rattle.mm_move_rules.specs.{is_empty, IsLegal};
+ghost use Rattle.mm_requests.specs.{ended};
 ghost use Rattle.mm_parts.specs.PartsShown as parts_of;
 ghost use Rattle.mm_parts.specs.{parts_after, front, own_ended, end_of_read, write_end};
-ghost use Rattle.mm_blocks.specs.{WasRead};
+ghost use Rattle.mm_devices.specs.{WasRead};
 ghost use Rattle.mm_types.specs.declared.moves.Move.TheVariants as move;
 ghost use Rattle.mm_state.specs.{filled_if};
 
-use mm_blocks::Inject;
+use mm_devices::Inject;
 use mm_parts::Parts;
 use mm_types::{Failed, Frame, Move, NoMemory};
 

@@ -1,16 +1,16 @@
 ghost use Rattle.std.specs.Prelude.{◌≡◌, IfOk, IfErr, length};
 ghost use Rattle.mm_types.specs.{Both};
-ghost use Rattle.mm_life.specs.{BytesLocated};
+ghost use Rattle.mm_move_rules.specs.{BytesLocated};
 ghost use Rattle.mm_parts.specs.PartsShown as parts_of;
 ghost use Rattle.mm_parts.specs.{first_move};
-ghost use Rattle.mm_blocks.specs.{device_with};
+ghost use Rattle.mm_devices.specs.{device_with};
 ghost use Rattle.mm_state.specs.Shown.{MachineStarts};
 ghost use Rattle.mm_state.specs.Tallied.{IsTallied};
 ghost use Rattle.mm_state.specs.Whole.{AreWhole};
 
 use crate::tallies::Tallies;
-use mm_blocks::Inject;
-use mm_moves::Moves;
+use mm_devices::Inject;
+use mm_log_writer::Moves;
 use mm_parts::Parts;
 use mm_types::{LineKind, Machine, Move, NoMemory, Unmade};
 use std::alloc::Global;

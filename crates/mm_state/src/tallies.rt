@@ -1,5 +1,5 @@
 ghost use Rattle.std.specs.Prelude.{◌≡◌};
-ghost use Rattle.mm_pages.specs.{with_outcome, no_calls, none_told, with_write};
+ghost use Rattle.mm_store.specs.{with_outcome, no_calls, none_told, with_write};
 ghost use Rattle.mm_state.specs.Tallied.{searched_anew, read_told};
 
 use mm_types::{Backing, Key};
@@ -57,7 +57,7 @@ pub(crate) struct Tallies {
 }
 
 impl Model for Tallies {
-    ghost use Rattle.mm_pages.specs.Told.{Told};
+    ghost use Rattle.mm_store.specs.Told.{Told};
 
     ghost Value = { Told };
 

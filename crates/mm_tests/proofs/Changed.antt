@@ -5,15 +5,15 @@ use Rattle.std.proofs.lemmas.List.{length-set}
 use Rattle.mm_types.specs.{Backing, Held, Key}
 use Rattle.mm_types.specs.declared.frames.Backing.TheVariants as backing
 use Rattle.mm_types.specs.declared.frames.Held.TheVariants as held
-use Rattle.mm_life.specs.{home_at, record_at, FrameLife, is_live, FrameBytes, BlockBytes, bytes_at, contents_of, held_at, BytesLocated, Log}
-use Rattle.mm_laws.specs.{ReachedByMoves}
-use Rattle.mm_laws.proofs.{facts_of}
+use Rattle.mm_move_rules.specs.{home_at, record_at, FrameLife, is_live, FrameBytes, BlockBytes, bytes_at, contents_of, held_at, BytesLocated, Log}
+use Rattle.mm_move_laws.specs.{ReachedByMoves}
+use Rattle.mm_move_laws.proofs.{facts_of}
 use Rattle.mm_frame_laws.proofs.{owned_low}
-use Rattle.mm_blocks.specs.{DeviceOf, Call, Serves}
-use Rattle.mm_blocks.proofs.{named_as_before}
-use Rattle.mm_pages.specs.Told.{Told}
+use Rattle.mm_devices.specs.{DeviceOf, Call, Serves}
+use Rattle.mm_devices.proofs.{named_as_before}
+use Rattle.mm_store.specs.Told.{Told}
 use Rattle.mm_parts.specs.{PartsOf}
-use Rattle.mm_moving.specs.{StateOf, written_if}
+use Rattle.mm_state_calls.specs.{StateOf, written_if}
 use Rattle.mm_state.specs.{joined_state}
 use Rattle.mm_tests.specs.{BytesChanged, NoneBacked}
 

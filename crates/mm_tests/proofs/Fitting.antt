@@ -1,9 +1,9 @@
 -- A store keeps what it keeps, and fits the tables as before, where bytes of pages alone changed.
 use Rattle.std.proofs.Common.{◌≡◌, ◌≤◌, ℕ, sym, ap, ◌∙◌, subst}
 use Rattle.mm_world.specs.{Tables}
-use Rattle.mm_tables.specs.{FitsTables}
-use Rattle.mm_moving.specs.{StateOf}
-use Rattle.mm_paged.specs.{OwnOf, StoreKept, store_of}
+use Rattle.mm_object_tables.specs.{FitsTables}
+use Rattle.mm_state_calls.specs.{StateOf}
+use Rattle.mm_pager.specs.{OwnOf, StoreKept, store_of}
 use Rattle.mm_tests.specs.{BytesChanged}
 
 -- the state with other bytes and devices

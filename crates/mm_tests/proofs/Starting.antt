@@ -1,13 +1,13 @@
 -- A new state, and a store over it, is where each scene begins.
 use Rattle.std.proofs.Common.{◌≡◌, ℕ, List, [], Option, None, length, replicate, refl, sym, ap, subst}
 use Rattle.mm_types.specs.{MachineOf, Key}
-use Rattle.mm_life.specs.{Log}
-use Rattle.mm_blocks.specs.{DeviceOf, empty_block}
+use Rattle.mm_move_rules.specs.{Log}
+use Rattle.mm_devices.specs.{DeviceOf, empty_block}
 use Rattle.mm_world.specs.{Page}
-use Rattle.mm_pages.specs.{IsNew, StoreOf, none_told}
+use Rattle.mm_store.specs.{IsNew, StoreOf, none_told}
 use Rattle.mm_parts.specs.{first_parts}
-use Rattle.mm_moving.specs.{StateOf}
-use Rattle.mm_paged.specs.{OwnOf, own_of, store_of}
+use Rattle.mm_state_calls.specs.{StateOf}
+use Rattle.mm_pager.specs.{OwnOf, own_of, store_of}
 use Rattle.mm_state.specs.{MachineStarts, joined_state}
 use Rattle.mm_tests.specs.{small_machine}
 

@@ -2,8 +2,8 @@
 use Rattle.std.specs.Prelude.{◌≡◌, ◌<◌, ℕ, is_some, length}
 use Rattle.mm_types.specs.{MachineOf, Key}
 use Rattle.mm_types.specs.declared.frames.Backing.TheVariants as backing
-use Rattle.mm_life.specs.{record_at, FrameLife}
-use Rattle.mm_moving.specs.{StateOf}
+use Rattle.mm_move_rules.specs.{record_at, FrameLife}
+use Rattle.mm_state_calls.specs.{StateOf}
 
 abbrev pub small_machine : MachineOf
 small_machine = record { frames = 6; slots = 8; depth = 1; blocks = 1 }

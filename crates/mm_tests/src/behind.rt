@@ -1,16 +1,16 @@
 ghost use Rattle.std.specs.Prelude.{◌≡◌, ◌≤◌, ◌<◌, false, length, IsSome, slice_set};
 ghost use Rattle.std.specs.Bool.{OnTrue, OnFalse};
 ghost use Rattle.mm_types.specs.declared.devices.Direction.TheVariants as way;
-ghost use Rattle.mm_blocks.specs.{is_named, Serves, device_with};
-ghost use Rattle.mm_life.specs.{record_at, is_read};
+ghost use Rattle.mm_devices.specs.{is_named, Serves, device_with};
+ghost use Rattle.mm_move_rules.specs.{record_at, is_read};
 ghost use Rattle.mm_ram.specs.{bytes_of, overwritten, with_page};
 ghost use Rattle.mm_frame_laws.specs.{IsSoiled};
 ghost use Rattle.mm_parts.specs.PartsShown as parts_of;
 ghost use Rattle.mm_state.specs.{shown_state};
 ghost use Rattle.mm_tests.specs.{BytesChanged, NoneBacked};
 
-use mm_blocks::Inject;
-use mm_moves::Moves;
+use mm_devices::Inject;
+use mm_log_writer::Moves;
 use mm_parts::Parts;
 use mm_state::State;
 use mm_types::{Block, Failed, Frame, Slot};

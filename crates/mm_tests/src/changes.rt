@@ -1,20 +1,20 @@
 ghost use Rattle.std.specs.Prelude.{◌≡◌, false, IsSome, IfSome};
 ghost use Rattle.std.specs.Bool.{OnTrue};
-ghost use Rattle.mm_life.specs.{record_at};
+ghost use Rattle.mm_move_rules.specs.{record_at};
 ghost use Rattle.mm_world.specs.{Tables};
 ghost use Rattle.mm_frame_laws.specs.{IsSoiled};
 ghost use Rattle.mm_state.specs.{shown_state};
-ghost use Rattle.mm_paged.specs.Store as paged;
-ghost use Rattle.mm_tables.specs.{FitsTables};
-ghost use Rattle.mm_core.specs.{line_number};
+ghost use Rattle.mm_pager.specs.Store as paged;
+ghost use Rattle.mm_object_tables.specs.{FitsTables};
+ghost use Rattle.mm_dispatch.specs.{line_number};
 ghost use Rattle.mm_tests.specs.Behind.{BytesChanged, NoneBacked};
 
 use crate::behind::{write_block, write_frame, write_slot};
-use mm_blocks::Inject;
-use mm_core::World;
-use mm_moves::Moves;
-use mm_moving::Moving;
-use mm_paged::Paged;
+use mm_devices::Inject;
+use mm_dispatch::World;
+use mm_log_writer::Moves;
+use mm_state_calls::Moving;
+use mm_pager::Paged;
 use mm_state::State;
 use mm_types::{Backing, Block, Frame, Request, Slot};
 

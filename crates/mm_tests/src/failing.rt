@@ -1,6 +1,6 @@
-use mm_blocks::MemBlocks;
+use mm_devices::MemBlocks;
 use mm_io::{MemSink, MemSource};
-use mm_log::run_log;
+use mm_log_check::run_log;
 use mm_run::run;
 use std::alloc::{AllocError, Global};
 use std::process::Abort;

@@ -1,4 +1,4 @@
-use mm_flight::Flight;
+use mm_requests::Flight;
 use std::test::Fail;
 
 /// What no program asks.

@@ -1,11 +1,11 @@
 ghost use Rattle.std.specs.Prelude.{◌≡◌, ◌≤◌, ◌+◌, false, OnOk, IfOk, replicate};
-ghost use Rattle.mm_blocks.specs.{empty_block};
+ghost use Rattle.mm_devices.specs.{empty_block};
 ghost use Rattle.mm_script.specs.{IsWellFormed};
-ghost use Rattle.mm_core.specs.{is_machine, line_number};
+ghost use Rattle.mm_dispatch.specs.{is_machine, line_number};
 
-use mm_blocks::{Blocks, MemBlocks};
-use mm_core::{World, is_machine};
-use mm_pages::Pages;
+use mm_devices::{Blocks, MemBlocks};
+use mm_dispatch::{World, is_machine};
+use mm_store::Pages;
 use mm_script::parse_line;
 use mm_text::{LineBuf, spell};
 use mm_types::{Answer, Event, NoMemory};

@@ -1,5 +1,5 @@
 use mm_io::MemSink;
-use mm_moves::{Moves, Recorder, spell};
+use mm_log_writer::{Moves, Recorder, spell};
 use mm_text::LineBuf;
 use mm_types::{Frame, LineKind, Move};
 use std::test::Fail;

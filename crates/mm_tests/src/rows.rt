@@ -1,13 +1,13 @@
 ghost use Rattle.std.specs.Prelude.{◌≡◌, false, replicate};
-ghost use Rattle.mm_blocks.specs.{empty_block};
-ghost use Rattle.mm_pages.specs.{IsNew};
-ghost use Rattle.mm_core.specs.{line_number};
+ghost use Rattle.mm_devices.specs.{empty_block};
+ghost use Rattle.mm_store.specs.{IsNew};
+ghost use Rattle.mm_dispatch.specs.{line_number};
 
 use crate::lines::{Stopped, opened, read_line};
-use mm_blocks::{Injected, MemBlocks};
-use mm_core::World;
-use mm_pages::Pages;
-use mm_plain::Plain;
+use mm_devices::{Injected, MemBlocks};
+use mm_dispatch::World;
+use mm_store::Pages;
+use mm_unpaged::Plain;
 use mm_script::parse_line;
 use mm_types::{Event, Machine};
 use std::alloc::Global;

@@ -1,17 +1,17 @@
 ghost use Rattle.std.specs.Prelude.{◌≡◌, ◌≤◌, ◌+◌, false, [], OnOk, replicate};
-ghost use Rattle.mm_blocks.specs.{empty_block};
-ghost use Rattle.mm_pages.specs.{IsNew};
-ghost use Rattle.mm_core.specs.{line_number};
+ghost use Rattle.mm_devices.specs.{empty_block};
+ghost use Rattle.mm_store.specs.{IsNew};
+ghost use Rattle.mm_dispatch.specs.{line_number};
 ghost use Rattle.mm_tests.specs.Behind.{small_machine};
 
 use crate::changes::{Change, change_world};
 use crate::lines::{Stopped, opened, read_line};
-use mm_blocks::{Inject, Injected, MemBlocks};
-use mm_core::World;
+use mm_devices::{Inject, Injected, MemBlocks};
+use mm_dispatch::World;
 use mm_io::MemSink;
-use mm_moves::{Moves, Recorder};
-use mm_paged::Paged;
-use mm_pages::Pages;
+use mm_log_writer::{Moves, Recorder};
+use mm_pager::Paged;
+use mm_store::Pages;
 use mm_state::State;
 use mm_types::Machine;
 use std::alloc::Global;

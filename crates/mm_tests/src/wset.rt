@@ -1,7 +1,7 @@
-#![tactic(auto, using(mm_wset::proofs::UserLemmas::elsewhere, mm_wset::proofs::UserLemmas::is_here, mm_wset::proofs::UserLemmas::stays, mm_wset::proofs::UserLemmas::aged_stays, mm_wset::proofs::UserLemmas::one_more, mm_wset::proofs::UserLemmas::none_held, mm_wset::proofs::UserLemmas::none_counted))]
+#![tactic(auto, using(mm_working_sets::proofs::UserLemmas::elsewhere, mm_working_sets::proofs::UserLemmas::is_here, mm_working_sets::proofs::UserLemmas::stays, mm_working_sets::proofs::UserLemmas::aged_stays, mm_working_sets::proofs::UserLemmas::one_more, mm_working_sets::proofs::UserLemmas::none_held, mm_working_sets::proofs::UserLemmas::none_counted))]
 
 use mm_types::Vpn;
-use mm_wset::WorkingSet;
+use mm_working_sets::WorkingSet;
 use std::test::Fail;
 
 /// A set that is made with its room, which no program does.

@@ -3,7 +3,7 @@ use Rattle.std.proofs.Common.{◌≡◌, ℕ, ◌+◌, ◌-◌, ◌≤◌, Bool,
 use Rattle.std.specs.Prelude.{◌==◌, slice_index, Result, Ok, Err, OnOk, OnErr}
 use Rattle.std.proofs.lemmas.Bool.{eqb-true}
 use Rattle.mm_types.specs.{Pid, Place, NoMemory}
-use Rattle.mm_life.specs.{same_place}
+use Rattle.mm_move_rules.specs.{same_place}
 use Rattle.mm_transcripts.specs.{at_place, older, older_of, one_age_more, age_by, age_in, AreTouchedBefore}
 
 -- ---- the same place is of one process

@@ -2,13 +2,13 @@
 use Rattle.std.proofs.Common.{◌≡◌, List, [], ◌∷◌, ◌++◌, Option, Some, None, sym, ap, ◌∙◌, append_assoc}
 use Rattle.mm_types.specs.{Text, Move}
 use Rattle.mm_types.proofs.{append_nil}
-use Rattle.mm_life.specs.{FrameLife, unstarted, after_move}
-use Rattle.mm_classes.specs.{MarksOf, no_marks, marks_after, next_of, Class}
+use Rattle.mm_move_rules.specs.{FrameLife, unstarted, after_move}
+use Rattle.mm_move_classes.specs.{MarksOf, no_marks, marks_after, next_of, Class}
 use Rattle.mm_sentences.specs.declared.facts.Facts.{Facts}
 use Rattle.mm_sentences.specs.{facts_of}
 use Rattle.mm_transcripts.specs.{AgesOf, no_ages, Reason, Beside, row_text, ages_then, reason_then, rows_from, classed_row, rows_rest}
-use Rattle.mm_tell.specs.{pending, class_then, move_of, Pending}
-use Rattle.mm_tell.proofs.{class_known}
+use Rattle.mm_log_walk.specs.{pending, class_then, move_of, Pending}
+use Rattle.mm_log_walk.proofs.{class_known}
 
 module _ (b : Beside) (l : FrameLife) (v : MarksOf) (p : Option Pending) (x : Facts) (r : Option Reason) (a : AgesOf) (m : Move) where
   -- its row waits now, and that of the move before it was written

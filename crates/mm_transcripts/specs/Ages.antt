@@ -4,7 +4,7 @@ use Rattle.std.specs.Prelude.{ℕ, ◌+◌, Bool, ◌==◌, min, is_some, if◌t
 use Rattle.std.specs.Prelude.{option_map}
 use Rattle.mm_types.specs.{Pid, Tid, Place, Move}
 use Rattle.mm_types.specs.declared.moves.Move.TheVariants as move
-use Rattle.mm_life.specs.{same_place}
+use Rattle.mm_move_rules.specs.{same_place}
 
 pub record AgesOf : Type 0 where
   -- the age of each valid page

@@ -4,9 +4,9 @@ use Rattle.std.specs.Prelude.{ℕ, Bool, ◌==◌, if◌then◌else◌, [], ◌+
 use Rattle.std.specs.Prelude.{None, unwrap_or, codes}
 use Rattle.mm_types.specs.{Text, decimal, Move}
 use Rattle.mm_types.specs.declared.moves.Move.TheVariants as move
-use Rattle.mm_life.specs.{FrameLife, set_of, is_above_min}
-use Rattle.mm_classes.specs.{Class}
-use Rattle.mm_classes.specs.declared.classes.Class.TheVariants as class
+use Rattle.mm_move_rules.specs.{FrameLife, set_of, is_above_min}
+use Rattle.mm_move_classes.specs.{Class}
+use Rattle.mm_move_classes.specs.declared.classes.Class.TheVariants as class
 use Rattle.mm_transcripts.specs.Ages.{AgesOf}
 use Rattle.mm_transcripts.specs.declared.reasons.Reason.{Reason}
 

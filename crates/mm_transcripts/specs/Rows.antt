@@ -5,8 +5,8 @@ use Rattle.std.specs.Prelude.{[], ◌∷◌, ◌++◌, length, replicate, slice_
 use Rattle.std.specs.Prelude.{None}
 use Rattle.mm_types.specs.{Text, decimal, LineKind, Move}
 use Rattle.mm_types.specs.declared.moves.Move.TheVariants as move
-use Rattle.mm_life.specs.{FrameLife}
-use Rattle.mm_classes.specs.{Class}
+use Rattle.mm_move_rules.specs.{FrameLife}
+use Rattle.mm_move_classes.specs.{Class}
 use Rattle.mm_sentences.specs.declared.facts.Facts.{Facts}
 use Rattle.mm_sentences.specs.{kind_text, sentence_text}
 use Rattle.mm_transcripts.specs.Remarks.{remark_text}

@@ -1,7 +1,7 @@
 -- The ages that what is kept of them shows.
 use Rattle.std.specs.Prelude.{slice_index}
 use Rattle.indexmap.specs.IndexMap.{get}
-use Rattle.mm_life.specs.{same_place}
+use Rattle.mm_move_rules.specs.{same_place}
 use Rattle.mm_transcripts.specs.Ages.{AgesOf}
 use Rattle.mm_transcripts.specs.Keeping.{age_in, same_thread}
 use Rattle.mm_transcripts.specs.declared.ages.Ages.{Ages}

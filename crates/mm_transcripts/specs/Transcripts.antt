@@ -4,8 +4,8 @@ use Rattle.std.specs.Prelude.{Bool, ◌&&◌, if◌then◌else◌, is_some, List
 use Rattle.std.specs.Prelude.{None}
 use Rattle.mm_types.specs.{Text, Move}
 use Rattle.mm_types.specs.declared.moves.Move.TheVariants as move
-use Rattle.mm_life.specs.{FrameLife, unstarted, after_move}
-use Rattle.mm_classes.specs.{MarksOf, no_marks, marks_after, class_of, next_of}
+use Rattle.mm_move_rules.specs.{FrameLife, unstarted, after_move}
+use Rattle.mm_move_classes.specs.{MarksOf, no_marks, marks_after, class_of, next_of}
 use Rattle.mm_sentences.specs.{facts_of}
 use Rattle.mm_transcripts.specs.Ages.{AgesOf, no_ages, after_move as ages_moved}
 use Rattle.mm_transcripts.specs.Lines.{after_line}

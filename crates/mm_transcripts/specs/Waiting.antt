@@ -2,13 +2,13 @@
 -- Profile, "What a log shows".
 use Rattle.std.specs.Prelude.{Bool, List, [], ◌++◌, Option, Some, None}
 use Rattle.mm_types.specs.{Text, Move}
-use Rattle.mm_life.specs.{FrameLife}
-use Rattle.mm_classes.specs.{MarksOf, marks_of, next_of}
+use Rattle.mm_move_rules.specs.{FrameLife}
+use Rattle.mm_move_classes.specs.{MarksOf, marks_of, next_of}
 use Rattle.mm_sentences.specs.declared.facts.Facts.{Facts}
 use Rattle.mm_transcripts.specs.Ages.{AgesOf}
 use Rattle.mm_transcripts.specs.Shown.{ages_of}
 use Rattle.mm_transcripts.specs.declared.reasons.Reason.{Reason}
-use Rattle.mm_tell.specs.{class_then, move_of, Classed, Pending}
+use Rattle.mm_log_walk.specs.{class_then, move_of, Classed, Pending}
 use Rattle.mm_transcripts.specs.Rows.{Beside, row_text}
 use Rattle.mm_transcripts.specs.Transcripts.{rows_from}
 use Rattle.mm_transcripts.specs.declared.transcripts.TranscriptTeller.{TranscriptTeller}

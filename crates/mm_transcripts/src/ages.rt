@@ -1,6 +1,6 @@
 ghost use Rattle.std.specs.Prelude.{◌≡◌, ◌≤◌, OnOk, IfSome, option_map, slice_index};
 ghost use Rattle.indexmap.specs.IndexMap.{get};
-ghost use Rattle.mm_life.specs.{same_place};
+ghost use Rattle.mm_move_rules.specs.{same_place};
 ghost use Rattle.mm_replay.specs.Standing.{life as life_of};
 ghost use Rattle.mm_transcripts.specs.Ages.{no_ages, made_valid, made_invalid, touched, aged, keeping};
 ghost use Rattle.mm_transcripts.specs.Ages.{after_move};

@@ -1,10 +1,10 @@
 ghost use Rattle.std.specs.Prelude.{◌≡◌, ◌++◌, OnOk};
 ghost use Rattle.mm_types.specs.{decimal};
-ghost use Rattle.mm_life.specs.{is_above_min};
+ghost use Rattle.mm_move_rules.specs.{is_above_min};
 ghost use Rattle.mm_transcripts.specs.Reasons.{age_words, process_words, reason_words};
 
-use mm_classes::Class;
-use mm_life::ResidentSet;
+use mm_move_classes::Class;
+use mm_move_rules::ResidentSet;
 use mm_text::{LineBuf, put_decimal};
 use mm_types::{NoMemory, Pid};
 

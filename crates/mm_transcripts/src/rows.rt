@@ -4,7 +4,7 @@ ghost use Rattle.mm_transcripts.specs.{words_if, trimmed, padded, answered_row, 
 
 use crate::reasons::{Reason, put_reason};
 use crate::remarks::put_remark;
-use mm_classes::Class;
+use mm_move_classes::Class;
 use mm_replay::Life;
 use mm_sentences::{Facts, put_kind, put_number, put_sentence, put_words};
 use mm_types::{LineKind, NoMemory};

@@ -1,6 +1,6 @@
 ghost use Rattle.std.specs.Prelude.{◌≡◌, OnOk, OnErr, None, Some, slice_index};
 ghost use Rattle.indexmap.specs.IndexMap.{get};
-ghost use Rattle.mm_life.specs.{same_place};
+ghost use Rattle.mm_move_rules.specs.{same_place};
 ghost use Rattle.mm_transcripts.specs.{at_place, at_thread, older_of, AreTouchedBefore, age_in, one_age_more, same_thread};
 
 use indexmap::IndexMap;

@@ -1,6 +1,6 @@
 ghost use Rattle.std.specs.Prelude.{◌≡◌, ◌++◌, Bool, List, OnOk, option_map};
 ghost use Rattle.mm_types.specs.{Move};
-ghost use Rattle.mm_life.specs.{unstarted};
+ghost use Rattle.mm_move_rules.specs.{unstarted};
 ghost use Rattle.mm_replay.specs.Standing.{life as life_of};
 ghost use Rattle.mm_transcripts.specs.Shown.{ages_of};
 ghost use Rattle.mm_transcripts.specs.Rows.{line_of, row_text};
@@ -14,7 +14,7 @@ use crate::reasons::Reason;
 use crate::rows::{put_class_row, put_line_row};
 use mm_replay::Life;
 use mm_sentences::{Facts, facts_of, no_facts, put_why};
-use mm_tell::{Classed, Classifier, Lines, Teller};
+use mm_log_walk::{Classed, Classifier, Lines, Teller};
 use mm_types::{Move, NoMemory};
 use std::alloc::Global;
 

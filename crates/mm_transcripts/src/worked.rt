@@ -1,5 +1,5 @@
 ghost use Rattle.std.specs.Prelude.{◌≡◌, None, true};
-ghost use Rattle.mm_life.specs.{rewritten_log, smallest_set_log};
+ghost use Rattle.mm_move_rules.specs.{rewritten_log, smallest_set_log};
 ghost use Rattle.mm_transcripts.specs.{transcript, rewritten_rows, smallest_set_rows};
 
 #[tactic(auto, unfolding(mm_types::specs::Spelling::decimal_onto))]

@@ -1,7 +1,7 @@
 //! What every crate above names: numbers, machines, protections, events, answers, moves, faults.
 //!
 //! Plain data without behaviour. The definitions of worlds stand in `mm_world`, those of the life
-//! of the frames in `mm_life`; both cite the types of this crate.
+//! of the frames in `mm_move_rules`; both cite the types of this crate.
 #![tactic(auto)]
 
 mod answers;

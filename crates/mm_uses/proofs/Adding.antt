@@ -4,8 +4,8 @@ use Rattle.std.specs.Prelude.{◌==◌, count_by, sum}
 use Rattle.std.proofs.lemmas.List.{length-map}
 use Rattle.std.proofs.lemmas.List.Sums.{length-filter, sum_by-cons}
 use Rattle.mm_types.specs.{Counts, Record}
-use Rattle.mm_life.specs.{record_at, FrameLife, counts_of, is_active, is_in_transition}
-use Rattle.mm_laws.specs.{counted_frames}
+use Rattle.mm_move_rules.specs.{record_at, FrameLife, counts_of, is_active, is_in_transition}
+use Rattle.mm_move_laws.specs.{counted_frames}
 use Rattle.mm_uses.specs.{AddUp, total_in, use_of, row_of, is_use, records_in, totals, Column, Use}
 use Rattle.mm_uses.specs.declared.uses.Column.TheVariants as column
 use Rattle.mm_uses.specs.declared.uses.Use.TheVariants as use_of_frames

@@ -3,7 +3,7 @@ use Rattle.std.proofs.Common.{◌≡◌, ℕ, zero, suc, ◌+◌, ◌-◌, ◌<�
 use Rattle.std.specs.Prelude.{◌==◌, ◌||◌, slice_set, slice_index_or}
 use Rattle.std.proofs.lemmas.Bool.{eqb-true, eqb-false}
 use Rattle.mm_types.specs.{Text, Record}
-use Rattle.mm_life.specs.{FrameTable, record_at, is_on}
+use Rattle.mm_move_rules.specs.{FrameTable, record_at, is_on}
 use Rattle.mm_uses.specs.{frame_line, frame_lines}
 
 or_true : (a b : Bool) → b ≡ true → (a || b) ≡ true

@@ -2,7 +2,7 @@
 use Rattle.std.proofs.Common.{◌≡◌, ℕ, ◌∷◌, [], ◌++◌, ap, ◌∙◌, append_assoc}
 use Rattle.std.specs.Prelude.{codes}
 use Rattle.mm_types.specs.{Text, decimal}
-use Rattle.mm_life.specs.{ResidentSet, numbered}
+use Rattle.mm_move_rules.specs.{ResidentSet, numbered}
 use Rattle.mm_uses.specs.{set_row}
 
 -- the two numbers of a row are these

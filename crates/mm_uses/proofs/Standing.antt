@@ -2,7 +2,7 @@
 use Rattle.std.proofs.Common.{◌≡◌, ℕ, Bool, List, ◌∷◌, ◌++◌, sym, ap, ◌∙◌, append_assoc}
 use Rattle.std.specs.Prelude.{◌||◌}
 use Rattle.mm_types.specs.{Text, Move}
-use Rattle.mm_life.specs.{FrameLife, after_move}
+use Rattle.mm_move_rules.specs.{FrameLife, after_move}
 use Rattle.mm_uses.specs.{ended_by, line_ends, is_among, unless_found, ValidPage, pages_after, state_before, state_from}
 use Rattle.mm_uses.proofs.Tellings.{found_more}
 

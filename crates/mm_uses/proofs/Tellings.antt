@@ -4,7 +4,7 @@ use Rattle.std.specs.Prelude.{◌||◌, flat_map}
 use Rattle.std.proofs.lemmas.Grind.{flat_map-append}
 use Rattle.std.proofs.lemmas.List.Folds.{list_any-append}
 use Rattle.mm_types.specs.{Text, Move}
-use Rattle.mm_life.specs.{FrameLife, after_move}
+use Rattle.mm_move_rules.specs.{FrameLife, after_move}
 use Rattle.mm_uses.specs.{ended_by, line_ends, is_line, said_of, is_among, unless_found, counts_row, head_left, said_rest}
 
 -- two texts were written, in front of those that come

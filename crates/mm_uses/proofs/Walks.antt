@@ -4,7 +4,7 @@ use Rattle.std.specs.Prelude.{option_map, slice_get}
 use Rattle.std.proofs.lemmas.List.{append-nil, drop_all}
 use Rattle.std.proofs.lemmas.Option.{same_Some, none-some}
 use Rattle.mm_types.specs.{Frame}
-use Rattle.mm_life.specs.{FrameTable}
+use Rattle.mm_move_rules.specs.{FrameTable}
 use Rattle.mm_replay.specs.{frame_at, frames_on, IsBehind, FrameList, frame}
 
 number_of : (o : Option ℕ) (f : Frame) → option_map frame o ≡ Some f → o ≡ Some f.0

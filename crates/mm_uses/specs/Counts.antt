@@ -2,8 +2,8 @@
 -- Profile, "What a log shows".
 use Rattle.std.specs.Prelude.{Bool, List, [], ◌∷◌, ◌++◌, flat_map, codes}
 use Rattle.mm_types.specs.{Text, decimal, Move}
-use Rattle.mm_life.specs.{FrameLife, counts_of, unstarted}
-use Rattle.mm_classes.specs.{numbers_of}
+use Rattle.mm_move_rules.specs.{FrameLife, counts_of, unstarted}
+use Rattle.mm_move_classes.specs.{numbers_of}
 use Rattle.mm_text.specs.{right_in, numbers_in}
 use Rattle.mm_uses.specs.Lines.{line_ends}
 

@@ -5,7 +5,7 @@ use Rattle.std.specs.Prelude.{flat_map}
 use Rattle.std.specs.List.{list_any}
 use Rattle.mm_types.specs.{Text, Move}
 use Rattle.mm_types.specs.declared.moves.Move.TheVariants as move
-use Rattle.mm_life.specs.{FrameLife, after_move}
+use Rattle.mm_move_rules.specs.{FrameLife, after_move}
 
 -- the state in which the line ends that began last, if any did
 abbrev pub ended_line : FrameLife → List FrameLife

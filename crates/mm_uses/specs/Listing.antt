@@ -1,7 +1,7 @@
 -- The four lists of frames, read out.
 -- Profile, "What a log shows".
 use Rattle.std.specs.Prelude.{◌≡◌, ◌<◌, ◌^◌, length, count_by}
-use Rattle.mm_life.specs.{FrameTable, is_active, is_in_transition}
+use Rattle.mm_move_rules.specs.{FrameTable, is_active, is_in_transition}
 use Rattle.mm_uses.specs.declared.lists.FrameLists.{FrameLists}
 
 -- these are the frames on the lists, the one that stands there longest first

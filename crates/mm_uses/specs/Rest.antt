@@ -2,7 +2,7 @@
 -- Profile, "What a log shows".
 use Rattle.std.specs.Prelude.{ℕ, Bool, ◌||◌, if◌then◌else◌, List, [], ◌++◌, flat_map}
 use Rattle.mm_types.specs.{Text, Move}
-use Rattle.mm_life.specs.{FrameLife}
+use Rattle.mm_move_rules.specs.{FrameLife}
 use Rattle.mm_uses.specs.Lines.{line_ends, said_of, is_among, unless_found}
 use Rattle.mm_uses.specs.Counts.{counts_head, counts_row}
 use Rattle.mm_uses.specs.Uses.{use_text}

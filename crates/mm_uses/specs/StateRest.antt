@@ -2,7 +2,7 @@
 -- Profile, "What a log shows".
 use Rattle.std.specs.Prelude.{◌≡◌, ℕ, ◌<◌, Bool, ◌||◌, false, List, ◌++◌, slice_index_or}
 use Rattle.mm_types.specs.{Text, Move}
-use Rattle.mm_life.specs.{is_on, FrameLife}
+use Rattle.mm_move_rules.specs.{is_on, FrameLife}
 use Rattle.mm_uses.specs.Lines.{is_among, line_ends, unless_found}
 use Rattle.mm_uses.specs.States.{state_from}
 use Rattle.mm_uses.specs.declared.states.StateTeller.{StateTeller}

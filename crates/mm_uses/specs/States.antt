@@ -10,7 +10,7 @@ use Rattle.std.specs.Set.{remove_key}
 use Rattle.mm_types.specs.{Text, decimal, Record, Move, Place}
 use Rattle.mm_types.specs.declared.moves.LineKind.TheVariants as kind
 use Rattle.mm_types.specs.declared.moves.Move.TheVariants as move
-use Rattle.mm_life.specs.{ResidentSet, after_move, FrameTable, record_at, FrameLife, counts_of, unstarted, numbered}
+use Rattle.mm_move_rules.specs.{ResidentSet, after_move, FrameTable, record_at, FrameLife, counts_of, unstarted, numbered}
 use Rattle.mm_sentences.specs.{frame_row_text, state_by}
 use Rattle.mm_uses.specs.Lines.{is_among, is_line, line_ends, unless_found}
 

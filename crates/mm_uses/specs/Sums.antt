@@ -2,7 +2,7 @@
 -- Profile, "What a log shows".
 use Rattle.std.specs.Prelude.{◌≡◌, ℕ, ◌+◌, sum}
 use Rattle.mm_types.specs.{Counts}
-use Rattle.mm_life.specs.{FrameLife, counts_of}
+use Rattle.mm_move_rules.specs.{FrameLife, counts_of}
 use Rattle.mm_uses.specs.Uses.{cell, totals}
 use Rattle.mm_uses.specs.declared.uses.Column.{Column}
 use Rattle.mm_uses.specs.declared.uses.Column.TheVariants as column

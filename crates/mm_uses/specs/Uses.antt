@@ -5,7 +5,7 @@ use Rattle.std.specs.Prelude.{flat_map}
 use Rattle.std.specs.Prelude.{length, count_by, sum, codes, Option, Some, None}
 use Rattle.mm_types.specs.{Text, decimal, Counts, Record, Request, Move, Key}
 use Rattle.mm_types.specs.declared.numbers.Key.TheVariants.{Private, Shared}
-use Rattle.mm_life.specs.{ResidentSet, record_at, has_request, FrameLife, unstarted, counts_of, is_active, is_in_transition, numbered}
+use Rattle.mm_move_rules.specs.{ResidentSet, record_at, has_request, FrameLife, unstarted, counts_of, is_active, is_in_transition, numbered}
 use Rattle.mm_text.specs.{right_in, numbers_in}
 use Rattle.mm_uses.specs.Lines.{line_ends, said_of, is_among, unless_found}
 use Rattle.mm_uses.specs.declared.uses.Use.{Use}

@@ -1,8 +1,8 @@
 ghost use Rattle.std.specs.Prelude.{◌≡◌, ◌||◌, ◌++◌, [], Bool, List, OnOk, flat_map, true};
 ghost use Rattle.mm_types.specs.{Move};
-ghost use Rattle.mm_life.specs.{unstarted};
+ghost use Rattle.mm_move_rules.specs.{unstarted};
 ghost use Rattle.mm_replay.specs.Standing.{life as life_of};
-ghost use Rattle.mm_classes.specs.{numbers_of};
+ghost use Rattle.mm_move_classes.specs.{numbers_of};
 ghost use Rattle.mm_text.specs.{numbers_in};
 ghost use Rattle.mm_uses.specs.Counts.{counts_head, counts_row, counts_rows};
 ghost use Rattle.mm_uses.specs.Lines.{ended_line, ended_by, is_among, line_ends, said_of, unless_found};
@@ -11,10 +11,10 @@ ghost use Rattle.mm_uses.specs.Uses.{use_rows, use_text};
 ghost use Rattle.mm_sentences.specs.{why_text};
 
 use crate::tables::put_use;
-use mm_classes::counts_in;
+use mm_move_classes::counts_in;
 use mm_replay::Life;
 use mm_sentences::{put_why, put_words};
-use mm_tell::Teller;
+use mm_log_walk::Teller;
 use mm_text::{put_numbers, put_right_number};
 use mm_types::{Counts, Move, NoMemory};
 use std::alloc::Global;

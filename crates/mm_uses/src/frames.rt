@@ -1,11 +1,11 @@
 ghost use Rattle.std.specs.Prelude.{◌≡◌, ◌++◌, ◌<◌, OnOk, IfOk, false};
 ghost use Rattle.std.specs.Prelude.{slice_index_or};
-ghost use Rattle.mm_life.specs.{is_on};
+ghost use Rattle.mm_move_rules.specs.{is_on};
 ghost use Rattle.mm_replay.specs.Standing.{life as life_of};
 ghost use Rattle.mm_sentences.specs.{state_by};
 ghost use Rattle.mm_uses.specs.{AreMarked, frame_line, frame_lines};
 
-use mm_classes::{has_request, is_read};
+use mm_move_classes::{has_request, is_read};
 use mm_replay::Life;
 use mm_sentences::{FrameState, put_numbered, put_row, put_words};
 use mm_types::{Frame, NoMemory, Record};

@@ -5,7 +5,7 @@ ghost use Rattle.mm_uses.specs.{use_text};
 
 use crate::lists::{FrameLists, frame_lists};
 use crate::uses::{Use, cells};
-use mm_life::ResidentSet;
+use mm_move_rules::ResidentSet;
 use mm_replay::Life;
 use mm_sentences::{put_counted, put_numbered, put_pair, put_words};
 use mm_text::{put_numbers, put_right_number};

@@ -1,11 +1,11 @@
 ghost use Rattle.std.specs.Prelude.{◌≡◌, ◌≤◌, ◌<◌, ◌^◌, length, count_by, filter, sum};
-ghost use Rattle.mm_life.specs.{is_active, is_in_transition};
+ghost use Rattle.mm_move_rules.specs.{is_active, is_in_transition};
 ghost use Rattle.mm_replay.specs.Standing.{life as life_of};
 ghost use Rattle.mm_uses.specs.Listing.{AreListsOf, AreFew};
 ghost use Rattle.mm_uses.specs.Uses.{use_by, row_of, is_use, cells, listed_records};
 
 use crate::lists::FrameLists;
-use mm_classes::has_request;
+use mm_move_classes::has_request;
 use mm_replay::Life;
 use mm_types::{Frame, Key, Record, Request};
 

@@ -3,7 +3,7 @@
 #![tactic(auto)]
 
 use mm_io::{StdSink, StdSource, buffered, exit_code, words};
-use mm_log::run_log;
+use mm_log_check::run_log;
 use mm_types::NoMemory;
 use std::alloc::Global;
 use std::io;

@@ -2,7 +2,7 @@
 #![tactic(auto)]
 
 use mm_io::{StdSink, StdSource, buffered, exit_code, words};
-use mm_page::{UP_TO_ANSWERS, UP_TO_CLASSES, UP_TO_END, UP_TO_MOVES, UP_TO_SCRIPT};
+use mm_html::{UP_TO_ANSWERS, UP_TO_CLASSES, UP_TO_END, UP_TO_MOVES, UP_TO_SCRIPT};
 use mm_show::{PageTexts, run_show};
 use mm_types::NoMemory;
 use std::alloc::Global;

@@ -2,7 +2,7 @@
 //! standard output, the moves of its page frames on standard error.
 #![tactic(auto)]
 
-use mm_blocks::MemBlocks;
+use mm_devices::MemBlocks;
 use mm_io::{StdSink, StdSource, buffered, exit_code, words};
 use mm_run::run;
 use mm_types::NoMemory;

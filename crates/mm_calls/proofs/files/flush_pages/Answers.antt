@@ -3,7 +3,7 @@ use Rattle.mm_calls.proofs.Flushing.{loop_none, loop_more, loop_all, loop_ended}
 use Rattle.mm_calls.proofs.Flushing.{flushed_none, flushed_more, blamed_since}
 use Rattle.mm_calls.proofs.files.flush_pages.Goals as goal
 use Rattle.mm_types.proofs.{on_err}
-use Rattle.mm_pages.proofs.{served_then}
+use Rattle.mm_store.proofs.{served_then}
 
 pub loop-i-init : goal.loop-i-init
 loop-i-init g c =

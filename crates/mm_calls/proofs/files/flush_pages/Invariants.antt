@@ -1,5 +1,5 @@
 use Rattle.std.proofs.Common.{◌≡◌}
-use Rattle.mm_pages.specs.{PassesIn}
+use Rattle.mm_store.specs.{PassesIn}
 use Rattle.mm_calls.specs.{keys_from}
 use Rattle.mm_calls.proofs.Flushing.{FlushedTo}
 use Rattle.mm_calls.proofs.Flushing.{WereFlushed}

@@ -1,11 +1,11 @@
 use Rattle.std.proofs.Common.{◌≡◌, ◌≤◌, ◌-◌, ◌∙◌, sym, ap, subst, arith, length, None, Some, cond}
 use Rattle.std.specs.Prelude.{◌==◌, option_map}
 use Rattle.mm_types.specs.{Range, lies_within, page_of, range_of}
-use Rattle.mm_pages.specs.{Flushes, PassesIn}
+use Rattle.mm_store.specs.{Flushes, PassesIn}
 use Rattle.mm_calls.proofs.Flushing.{flushes_none}
 use Rattle.mm_calls.proofs.Flushing.{no_process, no_view, flushed_are, flushed_count_is}
 use Rattle.mm_world.specs.{ProcessOf, RegionOf, pages_of, process_of, is_private, area_at, view_around, flushed_view}
-use Rattle.mm_spaces.specs.{RegionInfo, found_info}
+use Rattle.mm_address_spaces.specs.{RegionInfo, found_info}
 use Rattle.mm_calls.proofs.{FindsView, finds_view, told_view, told_none, flushed_within}
 use Rattle.mm_calls.proofs.files.flush_view.Given as given
 use Rattle.mm_calls.proofs.files.flush_view.Goals as goal

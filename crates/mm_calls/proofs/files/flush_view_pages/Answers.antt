@@ -1,5 +1,5 @@
 use Rattle.std.proofs.Common.{rules, ◌≡◌, ◌+◌, ◌∙◌, sym, ap, subst, cond, is_some, false, Some, []}
-use Rattle.mm_pages.specs.{Flushes, PassesIn}
+use Rattle.mm_store.specs.{Flushes, PassesIn}
 use Rattle.mm_calls.specs.{keys_from}
 use Rattle.mm_calls.proofs.Flushing.{flushes_none}
 use Rattle.mm_world.specs.{AreaOf, area_at}

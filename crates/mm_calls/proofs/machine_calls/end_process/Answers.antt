@@ -1,8 +1,8 @@
 use Rattle.std.proofs.Common.{◌∙◌, sym, map}
 use Rattle.std.specs.Prelude.{◌==◌}
 use Rattle.mm_world.specs.{process_of, end_stacks, kept_of_others, Tables}
-use Rattle.mm_tables.specs.{is_uncommitted}
-use Rattle.mm_tables.proofs.{all_ended}
+use Rattle.mm_object_tables.specs.{is_uncommitted}
+use Rattle.mm_object_tables.proofs.{all_ended}
 use Rattle.mm_calls.proofs.machine_calls.end_process.Goals as goal
 use Rattle.mm_types.proofs.{some_found}
 

@@ -5,7 +5,7 @@ use Rattle.mm_types.specs.{Range, address_of}
 use Rattle.mm_types.proofs.{some_found}
 use Rattle.mm_world.specs.{ProcessOf, RegionOf, Found, process_of, region_around, set_region, blank, commit, change_rows}
 use Rattle.mm_world.specs.Alloc.{commit_pages}
-use Rattle.mm_spaces.specs.{found_info, owned_in}
+use Rattle.mm_address_spaces.specs.{found_info, owned_in}
 use Rattle.mm_calls.proofs.{told_is, user_range, owned_few, commit_within, ChangesWithin, past_limit, then_made, then_charged, commits_none}
 use Rattle.mm_calls.proofs.{commits_some, commits_broke, makes_within}
 use Rattle.mm_calls.proofs.memory_calls.commit.Given as given

@@ -2,8 +2,8 @@ use Rattle.std.proofs.Common.{◌≡◌, ◌∙◌, sym, ap, arith, Some}
 use Rattle.mm_types.specs.declared.answers.Answer.TheVariants as answer
 use Rattle.mm_types.proofs.{not_false}
 use Rattle.mm_world.specs.{ProcessOf, process_of, region_around, set_region, protection_at, protected, change_rows}
-use Rattle.mm_tables.specs.{new_marks}
-use Rattle.mm_tables.proofs.{not-true}
+use Rattle.mm_object_tables.specs.{new_marks}
+use Rattle.mm_object_tables.proofs.{not-true}
 use Rattle.mm_calls.specs.{protect_pages}
 use Rattle.mm_calls.proofs.{protect_missing, protect_uncommitted, protect_unaccepted, protect_within, ChangesWithin, past_limit, then_made}
 use Rattle.mm_calls.proofs.{then_charged, some_marks, stays_idle, decides_same, lacks}

@@ -2,7 +2,7 @@ use Rattle.std.proofs.Common.{◌∙◌, sym, ap, is_some}
 use Rattle.mm_types.specs.declared.answers.Answer.TheVariants as answer
 use Rattle.mm_types.proofs.{same_found}
 use Rattle.mm_world.specs.{RegionOf, Found, Tables, is_private, are_free_parameters, done}
-use Rattle.mm_tables.proofs.{settled_same}
+use Rattle.mm_object_tables.proofs.{settled_same}
 use Rattle.mm_calls.proofs.{IsRight, is_right, answers, frees_none, releases, releases_there, decommits}
 use Rattle.mm_calls.proofs.memory_calls.vfree.Given as given
 use Rattle.mm_calls.proofs.memory_calls.vfree.Goals as goal

@@ -3,10 +3,10 @@ use Rattle.std.specs.Prelude.{IsOk}
 use Rattle.mm_types.specs.{address_of, range_of}
 use Rattle.mm_world.specs.Alloc.{commit_pages}
 use Rattle.mm_world.specs.{blank, process_of, committed_at, guard_off, StackOf}
-use Rattle.mm_tables.specs.{FitsTables}
-use Rattle.mm_tables.proofs.{roomier_fits}
-use Rattle.mm_pages.proofs.{idle_before}
-use Rattle.mm_pages.specs.{Makes}
+use Rattle.mm_object_tables.specs.{FitsTables}
+use Rattle.mm_object_tables.proofs.{roomier_fits}
+use Rattle.mm_store.proofs.{idle_before}
+use Rattle.mm_store.specs.{Makes}
 use Rattle.mm_calls.proofs.{past_first, room_there, grown_is}
 use Rattle.mm_calls.proofs.probes.grow.Goals as goal
 use Rattle.mm_types.proofs.{some_found, on_err}

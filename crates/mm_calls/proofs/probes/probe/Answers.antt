@@ -1,10 +1,10 @@
 use Rattle.std.proofs.Common.{◌≡◌, ◌≤◌, ◌+◌, true, false, refl, sym, ◌∙◌, ap, arith, is_some}
 use Rattle.mm_types.specs.{page_of}
 use Rattle.mm_world.specs.{StackOf, process_of}
-use Rattle.mm_tables.specs.{committed_row}
+use Rattle.mm_object_tables.specs.{committed_row}
 use Rattle.mm_calls.proofs.{not_next, MeetsGuard, settled_then, takes_off, of_other, of_overflow, of_growth, grows_here, answers, makes_as}
 use Rattle.mm_calls.proofs.{makes_none}
-use Rattle.mm_tables.proofs.{settled_same}
+use Rattle.mm_object_tables.proofs.{settled_same}
 use Rattle.mm_calls.proofs.probes.probe.Given as given
 use Rattle.mm_calls.proofs.probes.probe.Goals as goal
 use Rattle.mm_calls.proofs.probes.probe.Goals.{After-is_overflow}

@@ -2,7 +2,7 @@ use Rattle.std.proofs.Common.{◌≡◌, ◌∙◌, Some, sym, ap, subst, is_som
 use Rattle.mm_world.specs.{Found, process_of, region_with, is_private, page_info, RegionOf, pages_of}
 use Rattle.mm_types.specs.{holds_page}
 use Rattle.mm_world.proofs.{found_stands}
-use Rattle.mm_spaces.specs.{PageInfo, IfTold, IfInView, LiesInView}
+use Rattle.mm_address_spaces.specs.{PageInfo, IfTold, IfInView, LiesInView}
 use Rattle.mm_calls.proofs.{in_section}
 use Rattle.mm_calls.proofs.queries.page_info.Goals as goal
 use Rattle.mm_types.proofs.{some_found, same_found}

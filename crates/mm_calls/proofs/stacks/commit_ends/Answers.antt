@@ -1,8 +1,8 @@
 use Rattle.std.proofs.Common.{◌≡◌, ℕ, subst, ◌+◌, ◌-◌, ◌^◌, ◌∙◌, ap, arith}
 use Rattle.mm_types.specs.{Range}
 use Rattle.mm_world.specs.{charge, limit, Tables, set_region, commit, change_rows}
-use Rattle.mm_pages.specs.{Turns, MakesStack, PassesIn}
-use Rattle.mm_pages.proofs.{stack_then}
+use Rattle.mm_store.specs.{Turns, MakesStack, PassesIn}
+use Rattle.mm_store.proofs.{stack_then}
 use Rattle.mm_calls.specs.{IsReserved, IsUncommitted, reserved_region}
 use Rattle.mm_calls.proofs.{joined, in_user, top_free, guard_free, both_made, charge_more, lasts_commit}
 use Rattle.mm_calls.proofs.stacks.commit_ends.Given as given

@@ -1,5 +1,5 @@
 use Rattle.std.proofs.Common.{◌∙◌}
-use Rattle.mm_pages.proofs.{any_turn, idle_then}
+use Rattle.mm_store.proofs.{any_turn, idle_then}
 use Rattle.mm_calls.proofs.stacks.reserve_region.Goals as goal
 
 pub returns-in_err-reserve-2-clause-idles : goal.returns-in_err-reserve-2-clause-idles

@@ -4,8 +4,8 @@ use Rattle.mm_types.specs.declared.answers.Answer.TheVariants as answer
 use Rattle.mm_types.proofs.{some_found}
 use Rattle.mm_world.proofs.{page_of-address_of}
 use Rattle.mm_world.specs.{ProcessOf, Tables, process_of, stack_by, blank, stack, set_stack, set_regions, add_region, stack_region}
-use Rattle.mm_pages.specs.{Turns, MakesStack, guard_told, PassesIn}
-use Rattle.mm_tables.proofs.{settled_same}
+use Rattle.mm_store.specs.{Turns, MakesStack, guard_told, PassesIn}
+use Rattle.mm_object_tables.proofs.{settled_same}
 use Rattle.mm_calls.proofs.{ChangesWithin, past_limit, then_made, then_succeeds, stack_within, settled_then, answers}
 use Rattle.mm_calls.proofs.stacks.stack.Given as given
 use Rattle.mm_calls.proofs.stacks.stack.Goals as goal

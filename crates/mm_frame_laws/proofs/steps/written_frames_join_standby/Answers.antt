@@ -1,4 +1,4 @@
-use Rattle.mm_laws.proofs.{modified_frame}
+use Rattle.mm_move_laws.proofs.{modified_frame}
 use Rattle.mm_frame_laws.proofs.{written, written_flight, written_found, failed}
 use Rattle.mm_frame_laws.proofs.steps.written_frames_join_standby.Goals as goal
 

@@ -1,7 +1,7 @@
 use Rattle.std.proofs.Common.{◌∷◌, [], ◌++◌, ap, ◌∙◌}
 use Rattle.std.specs.Prelude.{codes}
 use Rattle.mm_types.specs.{Held}
-use Rattle.mm_life.specs.{held_at}
+use Rattle.mm_move_rules.specs.{held_at}
 use Rattle.mm_replay.specs.Standing.{life}
 use Rattle.mm_histories.specs.{held_text}
 use Rattle.mm_histories.proofs.{three}

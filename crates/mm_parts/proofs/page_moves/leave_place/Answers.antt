@@ -1,8 +1,8 @@
 use Rattle.std.proofs.Common.{ap, ◌∙◌, subst}
 use Rattle.mm_types.specs.{Key}
 use Rattle.mm_types.specs.declared.numbers.Key.TheVariants.{Shared}
-use Rattle.mm_words.specs.{WordsOf, has_word}
-use Rattle.mm_words.specs.Shown as tables
+use Rattle.mm_page_tables.specs.{WordsOf, has_word}
+use Rattle.mm_page_tables.specs.Shown as tables
 use Rattle.mm_parts.specs.{CanLeave}
 use Rattle.mm_parts.proofs.page_moves.leave_place.Goals as goal
 

@@ -1,5 +1,5 @@
 use Rattle.std.proofs.Common.{◌∙◌, refl, arith}
-use Rattle.mm_life.specs.{clearings}
+use Rattle.mm_move_rules.specs.{clearings}
 use Rattle.mm_reclaim.proofs.{chain_none, chain_more, chain_over, chain_all}
 use Rattle.mm_reclaim.proofs.chores.zero.Goals as goal
 

@@ -1,5 +1,5 @@
 use Rattle.std.proofs.Common.{◌≡◌, ◌≤◌}
-use Rattle.mm_life.specs.{clearings}
+use Rattle.mm_move_rules.specs.{clearings}
 use Rattle.mm_reclaim.specs.{RoundsTo}
 use Rattle.mm_reclaim.proofs.chores.zero.Given as goal
 

@@ -1,5 +1,5 @@
 use Rattle.std.proofs.Common.{◌≡◌}
-use Rattle.mm_laws.specs.{valid_places}
+use Rattle.mm_move_laws.specs.{valid_places}
 use Rattle.mm_reclaim.specs.Seeking.{Seeking}
 use Rattle.mm_reclaim.proofs.searching.search.Given as goal
 

@@ -1,7 +1,7 @@
 use Rattle.std.proofs.Common.{rules, ◌++◌, ◌∷◌, [], List, ℕ, sym, ap, ◌∙◌}
-use Rattle.mm_lists.specs.{ListsOf, list_at, number_at, with_list}
+use Rattle.mm_page_lists.specs.{ListsOf, list_at, number_at, with_list}
 use Rattle.mm_replay.specs.{free_alone}
-use Rattle.mm_life.proofs.{numbers_next}
+use Rattle.mm_move_rules.proofs.{numbers_next}
 use Rattle.mm_replay.proofs.{not_yet}
 use Rattle.mm_replay.proofs.listings.push_all.Goals as goal
 

@@ -1,5 +1,5 @@
 use Rattle.std.proofs.Common.{◌≡◌}
-use Rattle.mm_life.specs.{numbers_from}
+use Rattle.mm_move_rules.specs.{numbers_from}
 use Rattle.mm_replay.specs.{AreLists, free_alone}
 use Rattle.mm_replay.proofs.listings.push_all.Given as goal
 

@@ -1,6 +1,6 @@
 use Rattle.std.proofs.Common.{ℕ, List, refl, ◌∙◌, subst}
 use Rattle.mm_types.specs.{Appended}
-use Rattle.mm_make.specs.{script_of}
+use Rattle.mm_generate.specs.{script_of}
 use Rattle.mm_run.specs.declared.endings.Ending.TheVariants as ending
 use Rattle.mm_run.specs.{TornText, fault_counts_with}
 use Rattle.mm_run.proofs.{accounted, accounted_behind, ran_unflushed, ran_failed, all_told, all_torn, accounted_unflushed}

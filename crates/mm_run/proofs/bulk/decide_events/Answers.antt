@@ -1,7 +1,7 @@
 use Rattle.std.proofs.Common.{◌≡◌, ◌∙◌, List, refl, sym, ap, subst, cond, inl, inr, true, false, arith}
 use Rattle.std.proofs.lemmas.List.{take_all}
 use Rattle.mm_types.specs.{Event}
-use Rattle.mm_core.specs.{scene}
+use Rattle.mm_dispatch.specs.{scene}
 use Rattle.mm_run.specs.{Running, FaultCounts, Handled, fault_counts_with}
 use Rattle.mm_run.proofs.{blamed_then, first_handled, first_stopped, first_muted, handled_none, handled_on, stopped_on}
 use Rattle.mm_run.proofs.bulk.decide_events.Goals as goal

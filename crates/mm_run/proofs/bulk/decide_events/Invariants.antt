@@ -1,5 +1,5 @@
 use Rattle.std.proofs.Common.{◌≡◌, ◌≤◌, ◌+◌, take}
-use Rattle.mm_core.specs.{loans, world_behind, scene}
+use Rattle.mm_dispatch.specs.{loans, world_behind, scene}
 use Rattle.mm_run.specs.{Running, Handled, HasNotedAll, world_seen}
 use Rattle.mm_run.proofs.bulk.decide_events.Given as goal
 

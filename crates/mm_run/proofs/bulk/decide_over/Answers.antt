@@ -1,8 +1,8 @@
 use Rattle.std.proofs.Common.{◌∷◌, refl, sym, ap, ◌∙◌, subst, rules}
 use Rattle.mm_types.specs.{IsMachine}
 use Rattle.mm_types.specs.declared.events.Event.TheVariants as line
-use Rattle.mm_core.specs.{world, world_behind, scene}
-use Rattle.mm_paged.specs.Store as paged
+use Rattle.mm_dispatch.specs.{world, world_behind, scene}
+use Rattle.mm_pager.specs.Store as paged
 use Rattle.mm_run.specs.{AccountsMoves, BatchRan, MachineIsMade, NotBegun, Outset, Running, Starts, left_behind}
 use Rattle.mm_run.proofs.{is_new, is_made, log_left_at}
 use Rattle.mm_parts.proofs.{first_legal}

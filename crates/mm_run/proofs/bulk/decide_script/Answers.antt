@@ -2,7 +2,7 @@ use Rattle.std.proofs.Common.{◌≡◌, ◌-◌, ◌∷◌, take, drop, length,
 use Rattle.mm_types.specs.{Event}
 use Rattle.mm_run.specs.declared.endings.Ending.TheVariants as ending
 use Rattle.mm_types.specs.declared.events.Event.TheVariants as line
-use Rattle.mm_make.specs.{script_of}
+use Rattle.mm_generate.specs.{script_of}
 use Rattle.mm_run.specs.{NotBegun, outset, BatchRan, left_seen}
 use Rattle.mm_run.proofs.{log_left_at, stopped_here, slice_later, slice_few, blamed_opened, blamed_open, script_whole}
 use Rattle.mm_run.proofs.bulk.decide_script.Goals as goal

@@ -2,7 +2,7 @@ use Rattle.std.proofs.Common.{◌≡◌, ◌<◌, take, sym, refl, ap, ◌∙◌
 use Rattle.mm_script.specs.{IsLine as IsLineFor}
 use Rattle.std.specs.Prelude.{Ok, Err}
 use Rattle.mm_run.specs.{reading_of}
-use Rattle.mm_core.specs.{scene}
+use Rattle.mm_dispatch.specs.{scene}
 use Rattle.mm_run.proofs.{later_reading, later_misplaced, came_bad, came_unanswered, told_went, few}
 use Rattle.mm_run.proofs.decisions.answer_line.Goals as goal
 use Rattle.mm_run.proofs.decisions.answer_line.Goals.{In-Ok}

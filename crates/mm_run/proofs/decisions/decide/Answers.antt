@@ -2,10 +2,10 @@ use Rattle.std.proofs.Common.{◌≡◌, ◌∙◌, refl, sym, ap, inl, inr, tru
 use Rattle.std.specs.Prelude.{Bool}
 use Rattle.mm_types.specs.{Rose}
 use Rattle.mm_world.specs.{filled}
-use Rattle.mm_core.specs.{takes_memory, world, world_behind, report, ToldBeside, Breaks, scene}
+use Rattle.mm_dispatch.specs.{takes_memory, world, world_behind, report, ToldBeside, Breaks, scene}
 use Rattle.mm_run.specs.{Running, Moved, fault_counts_with}
 use Rattle.mm_run.proofs.{devices_hold, unpaged_answer, plain_answer}
-use Rattle.mm_core.proofs.{stands}
+use Rattle.mm_dispatch.proofs.{stands}
 use Rattle.mm_run.proofs.decisions.decide.Goals as goal
 use Rattle.mm_run.proofs.decisions.decide.Goals.{In-Ok}
 use Rattle.mm_run.proofs.decisions.decide.Given as given

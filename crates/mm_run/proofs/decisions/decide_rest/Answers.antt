@@ -1,5 +1,5 @@
 use Rattle.std.proofs.Common.{◌≡◌, ℕ, Some, ap, subst, refl, ◌∙◌, arith}
-use Rattle.mm_core.specs.{scene}
+use Rattle.mm_dispatch.specs.{scene}
 use Rattle.mm_run.specs.{EndsRun, moment, Running, input_seen, output_seen}
 use Rattle.mm_run.proofs.{goes_here, goes_then, goes_ends}
 use Rattle.mm_run.proofs.decisions.decide_rest.Goals as goal

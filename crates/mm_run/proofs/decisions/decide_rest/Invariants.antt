@@ -1,5 +1,5 @@
 use Rattle.std.proofs.Common.{◌≡◌}
-use Rattle.mm_core.specs.{loans}
+use Rattle.mm_dispatch.specs.{loans}
 use Rattle.mm_run.specs.{GoesOn, IsBetween, moment_seen, world_seen}
 use Rattle.mm_run.proofs.decisions.decide_rest.Given as goal
 

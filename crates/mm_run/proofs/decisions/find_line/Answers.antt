@@ -1,6 +1,6 @@
 use Rattle.std.proofs.Common.{◌≡◌, Some, refl, arith}
 use Rattle.mm_io.proofs.{filled_none}
-use Rattle.mm_core.specs.{scene}
+use Rattle.mm_dispatch.specs.{scene}
 use Rattle.mm_run.specs.declared.endings.Ending.TheVariants as ending
 use Rattle.mm_run.specs.{Running, input_seen, output_seen}
 use Rattle.mm_run.proofs.{goes_here, came_long, finds_then}

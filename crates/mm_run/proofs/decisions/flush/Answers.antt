@@ -1,5 +1,5 @@
 use Rattle.std.proofs.Common.{refl, sym, ap, ◌∙◌, arith}
-use Rattle.mm_core.specs.{scene}
+use Rattle.mm_dispatch.specs.{scene}
 use Rattle.mm_run.specs.{Running, fault_counts_with}
 use Rattle.mm_run.proofs.{came_held_back, went_told, came_torn, scene_follows}
 use Rattle.mm_run.proofs.decisions.flush.Goals as goal

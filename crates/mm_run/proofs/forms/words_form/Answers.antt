@@ -1,6 +1,6 @@
 use Rattle.std.proofs.Common.{◌≡◌, ◌∙◌, ap, ap₂, sym, refl, ◌∷◌, []}
 use Rattle.mm_types.specs.{Text}
-use Rattle.mm_forms.specs.{texts}
+use Rattle.mm_arguments.specs.{texts}
 use Rattle.mm_run.proofs.{no_numbers, says_none, two_items}
 use Rattle.mm_run.proofs.forms.words_form.Goals as goal
 

@@ -2,8 +2,8 @@ use Rattle.std.proofs.Common.{◌≡◌, ◌<◌, ◌∙◌, [], ◌∷◌, sym,
 use Rattle.mm_types.specs.declared.answers.Answer.TheVariants as answer
 use Rattle.mm_types.specs.declared.events.Event.TheVariants as line
 use Rattle.mm_types.specs.{limit_of}
-use Rattle.mm_paging.specs.{first_move}
-use Rattle.mm_core.specs.{scene}
+use Rattle.mm_line_moves.specs.{first_move}
+use Rattle.mm_dispatch.specs.{scene}
 use Rattle.mm_run.specs.{NotBegun, Running, fault_counts_with}
 use Rattle.mm_run.proofs.{first_answered, told_went, told_muted, blamed_then, went_came}
 use Rattle.mm_run.proofs.machines.answer_all.Goals as goal

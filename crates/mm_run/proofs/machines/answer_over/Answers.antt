@@ -1,7 +1,7 @@
 use Rattle.std.proofs.Common.{◌≡◌, refl, sym, ap, ◌∙◌, subst, rules}
 use Rattle.mm_types.specs.{IsMachine}
-use Rattle.mm_core.specs.{world, world_behind, scene}
-use Rattle.mm_paged.specs.Store as paged
+use Rattle.mm_dispatch.specs.{world, world_behind, scene}
+use Rattle.mm_pager.specs.Store as paged
 use Rattle.mm_run.specs.declared.endings.Ending.TheVariants as ending
 use Rattle.mm_run.specs.{Comes, IsBlamed, IsStill, MachineIsMade, NotBegun, Outset, Running, Starts, fault_counts_with, left_behind, outside_seen, stand}
 use Rattle.mm_run.proofs.{is_new, is_made, log_left_at}

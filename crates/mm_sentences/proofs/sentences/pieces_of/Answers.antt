@@ -1,7 +1,7 @@
 use Rattle.std.proofs.Common.{◌≡◌, Bool, sym, ap}
-use Rattle.mm_life.specs.{FrameLife}
-use Rattle.mm_classes.specs.{Class}
-use Rattle.mm_classes.specs.declared.classes.Class.TheVariants as class
+use Rattle.mm_move_rules.specs.{FrameLife}
+use Rattle.mm_move_classes.specs.{Class}
+use Rattle.mm_move_classes.specs.declared.classes.Class.TheVariants as class
 use Rattle.mm_sentences.specs.declared.facts.Facts.{Facts}
 use Rattle.mm_sentences.specs.{sentence_text}
 use Rattle.mm_sentences.proofs.sentences.pieces_of.Goals as goal

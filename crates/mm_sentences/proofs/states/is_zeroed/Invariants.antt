@@ -1,5 +1,5 @@
 use Rattle.std.proofs.Common.{◌≡◌, drop}
-use Rattle.mm_life.specs.{is_on}
+use Rattle.mm_move_rules.specs.{is_on}
 use Rattle.mm_replay.specs.{frame_at}
 use Rattle.mm_replay.specs.Standing.{life}
 use Rattle.mm_sentences.proofs.states.is_zeroed.Given as goal

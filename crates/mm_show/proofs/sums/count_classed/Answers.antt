@@ -1,5 +1,5 @@
 use Rattle.std.proofs.Common.{◌++◌, Option, ap, ◌∙◌, sym}
-use Rattle.mm_tell.specs.{class_list, Classed}
+use Rattle.mm_log_walk.specs.{class_list, Classed}
 use Rattle.mm_show.specs.{of_class}
 use Rattle.mm_show.proofs.sums.count_classed.Goals as goal
 

@@ -1,6 +1,6 @@
 use Rattle.std.proofs.Common.{◌≡◌, ◌∙◌, Some, true, sym, subst, option_map, inl}
-use Rattle.mm_tell.specs.{Answers}
-use Rattle.mm_tell.proofs.{says_exactly}
+use Rattle.mm_log_walk.specs.{Answers}
+use Rattle.mm_log_walk.proofs.{says_exactly}
 use Rattle.mm_show.specs.{Form, files_of, has_script, has_answers, form_said, form_why, FileIs, whole_page}
 use Rattle.mm_show.proofs.top.run_show.Goals as goal
 

@@ -1,6 +1,6 @@
 use Rattle.std.proofs.Common.{◌≡◌, Bool, List, Option, ℕ, sym, ap, ◌∙◌, subst, option_map}
 use Rattle.mm_types.specs.{Text}
-use Rattle.mm_tell.specs.{Answers}
+use Rattle.mm_log_walk.specs.{Answers}
 use Rattle.mm_show.specs.{files_of, has_script, has_answers, form_said, form_why, FileIs, IsUnread, whole_page}
 use Rattle.mm_show.proofs.{file_lines}
 use Rattle.mm_show.proofs.top.show_form.Goals as goal

@@ -1,7 +1,7 @@
 use Rattle.std.proofs.Common.{◌≡◌, ◌<◌, ◌+◌, [], ◌∷◌, ◌++◌, length, length-append, arith, sym, ap, ◌∙◌, subst, inl, inr}
 use Rattle.std.specs.Prelude.{codes}
 use Rattle.mm_types.specs.{Text}
-use Rattle.mm_log.specs.{Shows}
+use Rattle.mm_log_check.specs.{Shows}
 use Rattle.mm_show.specs.{unread_text}
 use Rattle.mm_show.proofs.top.unread.Goals as goal
 

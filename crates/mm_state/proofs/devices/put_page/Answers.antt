@@ -1,6 +1,6 @@
 use Rattle.std.proofs.Common.{ap}
-use Rattle.mm_life.specs.{slot_of}
-use Rattle.mm_laws.specs.{block_of}
+use Rattle.mm_move_rules.specs.{slot_of}
+use Rattle.mm_move_laws.specs.{block_of}
 use Rattle.mm_state.proofs.devices.put_page.Goals as goal
 
 pub write_device-requires : goal.write_device-requires

@@ -1,7 +1,7 @@
 use Rattle.std.proofs.Common.{ap, refl}
 use Rattle.mm_types.proofs.{is_there}
-use Rattle.mm_life.specs.{slot_of}
-use Rattle.mm_laws.specs.{block_of}
+use Rattle.mm_move_rules.specs.{slot_of}
+use Rattle.mm_move_laws.specs.{block_of}
 use Rattle.mm_state.proofs.devices.read_page.Goals as goal
 
 pub read_from-requires-clause-block : goal.read_from-requires-clause-block

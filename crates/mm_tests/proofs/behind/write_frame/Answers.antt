@@ -1,5 +1,5 @@
 use Rattle.std.proofs.Common.{refl}
-use Rattle.mm_life.specs.{record_at}
+use Rattle.mm_move_rules.specs.{record_at}
 use Rattle.mm_ram.specs.{bytes_of, overwritten, with_page}
 use Rattle.mm_parts.specs.PartsShown as parts_of
 use Rattle.mm_frame_laws.proofs.{carries_written}

@@ -1,6 +1,6 @@
 use Rattle.std.proofs.Common.{ap}
 use Rattle.mm_ram.specs.{bytes_of, overwritten, with_page}
-use Rattle.mm_frames.specs.{FramesOf}
+use Rattle.mm_pfn_database.specs.{FramesOf}
 use Rattle.mm_parts.specs.{joined_parts}
 use Rattle.mm_parts.proofs.{step_to, bytes_step}
 use Rattle.mm_tests.proofs.behind.write_in_parts.Goals as goal

@@ -1,4 +1,4 @@
-use Rattle.mm_paged.specs.{own_in}
+use Rattle.mm_pager.specs.{own_in}
 use Rattle.mm_state.specs.{shown_state}
 use Rattle.mm_tests.proofs.{still_kept, still_fits, same_line}
 use Rattle.mm_tests.proofs.changes.change_store.Goals as goal

@@ -1,5 +1,5 @@
 use Rattle.std.proofs.Common.{ℕ, sym, subst}
-use Rattle.mm_tables.specs.{MadeAtMost}
+use Rattle.mm_object_tables.specs.{MadeAtMost}
 use Rattle.mm_tests.proofs.changes.change_world.Goals as goal
 
 pub invariant_of-world : goal.invariant_of-world

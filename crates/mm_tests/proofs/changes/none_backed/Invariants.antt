@@ -1,6 +1,6 @@
 use Rattle.std.proofs.Common.{◌≡◌, ◌<◌, ℕ}
 use Rattle.mm_types.specs.declared.frames.Backing.TheVariants as backing
-use Rattle.mm_life.specs.{record_at}
+use Rattle.mm_move_rules.specs.{record_at}
 use Rattle.mm_tests.proofs.changes.none_backed.Given as goal
 
 abbrev pub invariant-loop-f : goal.invariant-loop-f

@@ -1,5 +1,5 @@
 use Rattle.std.proofs.Common.{◌≡◌, ◌+◌, false}
-use Rattle.mm_core.specs.{line_number}
+use Rattle.mm_dispatch.specs.{line_number}
 use Rattle.mm_tests.proofs.worlds.all_lines.Given as goal
 
 abbrev pub invariant-loop-n : goal.invariant-loop-n

@@ -1,5 +1,5 @@
 use Rattle.std.proofs.Common.{ap, ◌∙◌}
-use Rattle.mm_blocks.specs.{MemBlocks}
+use Rattle.mm_devices.specs.{MemBlocks}
 use Rattle.mm_tests.proofs.worlds.over_devices.Goals as goal
 
 pub over_new-requires-clause-slots : goal.over_new-requires-clause-slots

@@ -1,5 +1,5 @@
 use Rattle.std.proofs.Common.{ap}
-use Rattle.mm_moving.specs.{StateOf}
+use Rattle.mm_state_calls.specs.{StateOf}
 use Rattle.mm_tests.proofs.{is_new}
 use Rattle.mm_tests.proofs.worlds.over_new.Goals as goal
 

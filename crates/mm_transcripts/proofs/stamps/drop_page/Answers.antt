@@ -1,6 +1,6 @@
 use Rattle.std.specs.Prelude.{slice_index}
 use Rattle.indexmap.specs.IndexMap.{get}
-use Rattle.mm_life.specs.{same_place}
+use Rattle.mm_move_rules.specs.{same_place}
 use Rattle.mm_transcripts.proofs.Aged.{earlier_unmapped, age_unmapped}
 use Rattle.mm_transcripts.proofs.stamps.drop_page.Goals as goal
 

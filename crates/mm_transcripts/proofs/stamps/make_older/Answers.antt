@@ -1,5 +1,5 @@
 use Rattle.indexmap.specs.IndexMap.{get}
-use Rattle.mm_life.specs.{same_place}
+use Rattle.mm_move_rules.specs.{same_place}
 use Rattle.mm_transcripts.proofs.Aged.{earlier_older, age_older}
 use Rattle.mm_transcripts.proofs.stamps.make_older.Goals as goal
 

@@ -1,7 +1,7 @@
 use Rattle.std.proofs.Common.{◌≡◌, ℕ, Some, subst}
 use Rattle.std.specs.Prelude.{slice_index, OnOk}
 use Rattle.indexmap.specs.IndexMap.{get}
-use Rattle.mm_life.specs.{same_place}
+use Rattle.mm_move_rules.specs.{same_place}
 use Rattle.mm_transcripts.specs.{at_place}
 use Rattle.mm_transcripts.proofs.Aged.{earlier_mapped, age_mapped}
 use Rattle.mm_transcripts.proofs.stamps.touch_page.Goals as goal

@@ -1,6 +1,6 @@
 use Rattle.std.proofs.Common.{◌≡◌, ℕ, ◌<◌, false, drop, length}
 use Rattle.std.specs.Prelude.{◌||◌, slice_index_or}
-use Rattle.mm_life.specs.{is_on}
+use Rattle.mm_move_rules.specs.{is_on}
 use Rattle.mm_uses.proofs.frames.marked.Given as goal
 
 abbrev pub invariant-loop-frame : goal.invariant-loop-frame

@@ -1,6 +1,6 @@
 use Rattle.std.proofs.Common.{ap, sym, ◌∙◌}
 use Rattle.mm_replay.specs.Standing.{life}
-use Rattle.mm_laws.specs.{counted_frames}
+use Rattle.mm_move_laws.specs.{counted_frames}
 use Rattle.mm_uses.proofs.{add_up}
 use Rattle.mm_uses.proofs.laws.uses_add_up.Goals as goal
 

@@ -1,6 +1,6 @@
 use Rattle.std.proofs.Common.{ℕ, List, ◌∷◌, [], ◌++◌, ap, ◌∙◌}
 use Rattle.std.specs.Prelude.{codes}
-use Rattle.mm_life.specs.{ResidentSet, numbered}
+use Rattle.mm_move_rules.specs.{ResidentSet, numbered}
 use Rattle.mm_replay.specs.Standing.{life}
 use Rattle.mm_uses.specs.{list_rows, frame_lines, process_lines, slots_line}
 use Rattle.mm_uses.proofs.{five}

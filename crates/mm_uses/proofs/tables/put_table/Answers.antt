@@ -1,7 +1,7 @@
 use Rattle.std.proofs.Common.{◌++◌, ap, ◌∙◌}
 use Rattle.std.specs.Prelude.{codes, flat_map}
 use Rattle.mm_types.specs.{Counts}
-use Rattle.mm_life.specs.{counts_of}
+use Rattle.mm_move_rules.specs.{counts_of}
 use Rattle.mm_replay.specs.Standing.{life}
 use Rattle.mm_uses.specs.{all_uses, sum_row, totals, use_head, use_row}
 use Rattle.mm_uses.proofs.{three}

@@ -1,6 +1,6 @@
 use Rattle.std.proofs.Common.{ℕ, List, ◌∷◌, [], ◌++◌, ap, ◌∙◌}
 use Rattle.std.specs.Prelude.{codes}
-use Rattle.mm_life.specs.{ResidentSet, numbered}
+use Rattle.mm_move_rules.specs.{ResidentSet, numbered}
 use Rattle.mm_replay.specs.Standing.{life}
 use Rattle.mm_uses.specs.{use_table, slots_row, requests_row, set_rows}
 use Rattle.mm_uses.proofs.{five}

@@ -1,6 +1,6 @@
 use Rattle.std.proofs.Common.{◌≡◌, ◌+◌, ◌≤◌, drop}
 use Rattle.std.specs.Prelude.{count_by, filter}
-use Rattle.mm_life.specs.{is_in_transition}
+use Rattle.mm_move_rules.specs.{is_in_transition}
 use Rattle.mm_replay.specs.Standing.{life}
 use Rattle.mm_uses.specs.{is_use}
 use Rattle.mm_uses.proofs.uses.count_in_transition.Given as goal

@@ -1,5 +1,5 @@
 use Rattle.std.proofs.Common.{None, refl}
-use Rattle.mm_classes.specs.{marks_of}
+use Rattle.mm_move_classes.specs.{marks_of}
 use Rattle.mm_faults.specs.{tally_of}
 use Rattle.mm_faults.proofs.{fault_none}
 use Rattle.mm_faults.proofs.faults.FaultTeller.new.Goals as goal

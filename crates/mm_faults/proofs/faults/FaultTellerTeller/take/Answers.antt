@@ -1,7 +1,7 @@
 use Rattle.std.proofs.Common.{◌++◌, ◌∙◌, Some, Option, ap, refl}
 use Rattle.mm_types.specs.{Text}
 use Rattle.mm_replay.specs.Standing.{life}
-use Rattle.mm_classes.specs.{marks_of, Class}
+use Rattle.mm_move_classes.specs.{marks_of, Class}
 use Rattle.mm_faults.specs.{tally_of, tallied}
 use Rattle.mm_faults.proofs.{fault_taken}
 use Rattle.mm_faults.proofs.faults.FaultTellerTeller.take.Goals as goal

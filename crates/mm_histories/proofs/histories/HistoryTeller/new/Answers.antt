@@ -1,4 +1,4 @@
-use Rattle.mm_classes.specs.{marks_of}
+use Rattle.mm_move_classes.specs.{marks_of}
 use Rattle.mm_histories.proofs.{history_none}
 use Rattle.mm_histories.proofs.histories.HistoryTeller.new.Goals as goal
 

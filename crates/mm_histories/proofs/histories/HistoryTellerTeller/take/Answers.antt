@@ -1,7 +1,7 @@
 use Rattle.std.proofs.Common.{◌++◌, Option, Some, ap, ◌∙◌}
-use Rattle.mm_classes.specs.{marks_of}
+use Rattle.mm_move_classes.specs.{marks_of}
 use Rattle.mm_replay.specs.Standing.{life}
-use Rattle.mm_tell.specs.{Classed}
+use Rattle.mm_log_walk.specs.{Classed}
 use Rattle.mm_histories.specs.{waiting_row, Noted}
 use Rattle.mm_histories.proofs.{history_taken}
 use Rattle.mm_histories.proofs.histories.HistoryTellerTeller.take.Goals as goal

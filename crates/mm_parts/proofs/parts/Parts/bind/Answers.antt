@@ -1,4 +1,4 @@
-use Rattle.mm_words.specs.{pages}
+use Rattle.mm_page_tables.specs.{pages}
 use Rattle.mm_parts.specs.{joined_parts}
 use Rattle.mm_parts.proofs.{words_done, bind_step, range_user}
 use Rattle.mm_parts.proofs.parts.Parts.bind.Goals as goal

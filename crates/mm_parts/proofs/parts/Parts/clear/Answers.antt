@@ -1,9 +1,9 @@
 use Rattle.std.proofs.Common.{◌≡◌, ℕ, refl, sym, ap, ◌∙◌}
 use Rattle.mm_types.specs.{Frame}
 use Rattle.mm_types.specs.declared.moves.Move.TheVariants as move
-use Rattle.mm_life.specs.{after_clear}
+use Rattle.mm_move_rules.specs.{after_clear}
 use Rattle.mm_ram.specs.{with_page, zero_page}
-use Rattle.mm_frames.specs.{FramesOf, free_taken, zeroed_put, now_cleared}
+use Rattle.mm_pfn_database.specs.{FramesOf, free_taken, zeroed_put, now_cleared}
 use Rattle.mm_parts.specs.{joined_parts, shown_parts, front, parts_after}
 use Rattle.mm_parts.proofs.{front_is, Step, step_to, clear_step}
 use Rattle.mm_parts.proofs.parts.Parts.clear.Goals as goal

@@ -1,5 +1,5 @@
 use Rattle.std.specs.Prelude.{◌==◌, false}
-use Rattle.mm_life.specs.{changed}
+use Rattle.mm_move_rules.specs.{changed}
 use Rattle.mm_parts.specs.{joined_parts}
 use Rattle.mm_parts.proofs.{open_step, words_step}
 use Rattle.mm_parts.proofs.parts.Parts.close_process.Goals as goal

@@ -1,5 +1,5 @@
 use Rattle.std.proofs.Common.{◌-◌, sym, ap, ◌∙◌}
-use Rattle.mm_life.specs.{freed}
+use Rattle.mm_move_rules.specs.{freed}
 use Rattle.mm_parts.specs.{joined_parts}
 use Rattle.mm_parts.proofs.{step_to, drop_told_step, drop_frees, drop_released, drop_calm, drop_some, drop_there}
 use Rattle.mm_parts.proofs.parts.Parts.drop_key.Goals as goal

@@ -1,9 +1,9 @@
 use Rattle.std.proofs.Common.{◌≡◌, Bool, Option, true, false, refl, sym, ap, ◌∙◌, subst}
 use Rattle.mm_types.specs.declared.moves.Move.TheVariants as move
 use Rattle.mm_types.specs.{Backing, Key}
-use Rattle.mm_life.specs.{record_at, IsLegal, freed}
-use Rattle.mm_frames.specs.{FramesOf}
-use Rattle.mm_words.specs.Shown as tables
+use Rattle.mm_move_rules.specs.{record_at, IsLegal, freed}
+use Rattle.mm_pfn_database.specs.{FramesOf}
+use Rattle.mm_page_tables.specs.Shown as tables
 use Rattle.mm_parts.specs.{JoinedParts, life_in, own_is, joined_parts, end_of_read, flight_ended, words_sent, CanSend}
 use Rattle.mm_parts.proofs.{Step, step_to, held_by_request, read_frees, reading_busy, send_can, table_read, read_table, read_left, read_shows}
 use Rattle.mm_parts.proofs.{read_over_by}

@@ -1,6 +1,6 @@
 use Rattle.std.proofs.Common.{◌≡◌, sym, ap, ◌∙◌}
-use Rattle.mm_life.specs.{freed}
-use Rattle.mm_frames.specs.{FramesOf}
+use Rattle.mm_move_rules.specs.{freed}
+use Rattle.mm_pfn_database.specs.{FramesOf}
 use Rattle.mm_parts.specs.{joined_parts}
 use Rattle.mm_parts.proofs.{step_to, table_end, write_end_step, ended_table, ended_bytes, write_frees, write_busy, held_by_request}
 use Rattle.mm_parts.proofs.parts.Parts.end_write.Goals as goal

@@ -1,7 +1,7 @@
 use Rattle.std.proofs.Common.{ap, set}
 use Rattle.std.specs.Prelude.{slice_get}
 use Rattle.std.proofs.lemmas.Result.{on_ok_weaker, on_err_weaker}
-use Rattle.mm_frames.specs.{FramesOf}
+use Rattle.mm_pfn_database.specs.{FramesOf}
 use Rattle.mm_parts.specs.{JoinedParts, joined_parts}
 use Rattle.mm_parts.proofs.{kept_by, bytes_step}
 use Rattle.mm_parts.proofs.parts.Parts.fill_from.Goals as goal

@@ -1,9 +1,9 @@
 use Rattle.std.proofs.Common.{◌≡◌, ℕ, sym, ap, ◌∙◌, subst, arith}
 use Rattle.mm_types.specs.{Frame}
 use Rattle.mm_types.specs.declared.moves.Move.TheVariants as move
-use Rattle.mm_life.specs.{after_give, IsLegal}
-use Rattle.mm_frames.specs.{FramesOf, zeroed_taken, given_to}
-use Rattle.mm_words.specs.Shown as tables
+use Rattle.mm_move_rules.specs.{after_give, IsLegal}
+use Rattle.mm_pfn_database.specs.{FramesOf, zeroed_taken, given_to}
+use Rattle.mm_page_tables.specs.Shown as tables
 use Rattle.mm_parts.specs.{life_in, joined_parts, shown_parts, front, parts_after, names_after_give}
 use Rattle.mm_parts.proofs.{front_is, Step, step_to, frame_fits, give_step}
 use Rattle.mm_parts.proofs.parts.Parts.give.Goals as goal

@@ -1,9 +1,9 @@
 use Rattle.std.proofs.Common.{refl, sym, ap, ◌∙◌, subst}
 use Rattle.mm_types.specs.{Record}
 use Rattle.mm_types.specs.declared.moves.Move.TheVariants as move
-use Rattle.mm_life.specs.{changed, same_place}
-use Rattle.mm_words.specs.Shown as tables
-use Rattle.mm_words.specs.{WordsOf}
+use Rattle.mm_move_rules.specs.{changed, same_place}
+use Rattle.mm_page_tables.specs.Shown as tables
+use Rattle.mm_page_tables.specs.{WordsOf}
 use Rattle.mm_parts.specs.{joined_parts, shown_parts, CanName, words_named, parts_after, left_by, names_after_map}
 use Rattle.mm_parts.proofs.{Step, step_to, mappable, invalid_entry, shares_room, name_can, frame_low, map_any_step}
 use Rattle.mm_parts.proofs.parts.Parts.map.Goals as goal

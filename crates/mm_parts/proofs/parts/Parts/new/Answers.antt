@@ -1,10 +1,10 @@
 use Rattle.std.proofs.Common.{◌≡◌, ℕ, ap, ◌∙◌}
 use Rattle.std.proofs.Common.{true, false, [], None, replicate, rules}
 use Rattle.mm_types.specs.{IsMachine}
-use Rattle.mm_life.specs.{free_table}
-use Rattle.mm_frames.specs.{FramesOf}
-use Rattle.mm_words.specs.Shown as tables
-use Rattle.mm_flight.specs.declared.flights.Waiting.TheVariants as waiting
+use Rattle.mm_move_rules.specs.{free_table}
+use Rattle.mm_pfn_database.specs.{FramesOf}
+use Rattle.mm_page_tables.specs.Shown as tables
+use Rattle.mm_requests.specs.declared.flights.Waiting.TheVariants as waiting
 use Rattle.mm_parts.specs.{first_parts, started_parts}
 use Rattle.mm_parts.proofs.{Step, step_to, start_step}
 use Rattle.mm_parts.proofs.parts.Parts.new.Goals as goal

@@ -1,7 +1,7 @@
 use Rattle.std.proofs.Common.{Option, subst}
 use Rattle.std.specs.Prelude.{option_map, MatchOption}
 use Rattle.mm_types.specs.{Vpn}
-use Rattle.mm_words.specs.{ages_in, NoneBehind, IsOldestOf}
+use Rattle.mm_page_tables.specs.{ages_in, NoneBehind, IsOldestOf}
 use Rattle.mm_parts.specs.{joined_parts}
 use Rattle.mm_parts.proofs.{ages_held, next_told, oldest_told}
 use Rattle.mm_parts.proofs.parts.Parts.oldest.Goals as goal

@@ -1,5 +1,5 @@
 use Rattle.std.specs.Prelude.{◌==◌, true}
-use Rattle.mm_life.specs.{changed}
+use Rattle.mm_move_rules.specs.{changed}
 use Rattle.mm_parts.specs.{joined_parts}
 use Rattle.mm_parts.proofs.{words_done, open_step}
 use Rattle.mm_parts.proofs.parts.Parts.open_process.Goals as goal

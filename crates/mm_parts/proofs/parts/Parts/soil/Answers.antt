@@ -1,6 +1,6 @@
 use Rattle.std.proofs.Common.{◌≡◌, Bool, List, ap, ◌∙◌}
 use Rattle.mm_types.specs.declared.moves.Move.TheVariants as move
-use Rattle.mm_life.specs.{record_at, slot_after_soil, freed}
+use Rattle.mm_move_rules.specs.{record_at, slot_after_soil, freed}
 use Rattle.mm_slots.specs.{SlotsOf}
 use Rattle.mm_parts.specs.{joined_parts, shown_parts, parts_after}
 use Rattle.mm_parts.proofs.{Step, step_to, soil_step}

@@ -1,9 +1,9 @@
 use Rattle.std.proofs.Common.{◌≡◌, sym, ap, ◌∙◌, subst}
 use Rattle.mm_types.specs.{Frame}
 use Rattle.mm_types.specs.declared.moves.Move.TheVariants as move
-use Rattle.mm_life.specs.{after_read, with_record, being_read, IsLegal, backing_of}
-use Rattle.mm_frames.specs.{FramesOf}
-use Rattle.mm_words.specs.Shown as tables
+use Rattle.mm_move_rules.specs.{after_read, with_record, being_read, IsLegal, backing_of}
+use Rattle.mm_pfn_database.specs.{FramesOf}
+use Rattle.mm_page_tables.specs.Shown as tables
 use Rattle.mm_parts.specs.{life_in, joined_parts, shown_parts, front_for_read, parts_after, own_after}
 use Rattle.mm_parts.proofs.{Step, step_to, frame_fits, read_backing, read_fewer, read_new, read_frame, read_step, read_fresh}
 use Rattle.mm_parts.proofs.parts.Parts.start_read.Goals as goal

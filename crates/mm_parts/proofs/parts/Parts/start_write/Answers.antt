@@ -1,8 +1,8 @@
 use Rattle.std.proofs.Common.{◌≡◌, sym, ap, ◌∙◌, subst}
 use Rattle.mm_types.specs.{Record, Backing, Stored}
 use Rattle.mm_types.specs.declared.moves.Move.TheVariants as move
-use Rattle.mm_life.specs.{record_at, after_write, IsLegal}
-use Rattle.mm_frames.specs.{FramesOf, can_go_to}
+use Rattle.mm_move_rules.specs.{record_at, after_write, IsLegal}
+use Rattle.mm_pfn_database.specs.{FramesOf, can_go_to}
 use Rattle.mm_parts.specs.{life_in, joined_parts, shown_parts, parts_after, own_after, write_target, goes_to, lowest_free}
 use Rattle.mm_frame_laws.specs.{backing_to}
 use Rattle.mm_parts.proofs.{Step, step_to, write_can, write_low, write_free, write_step, new_in}

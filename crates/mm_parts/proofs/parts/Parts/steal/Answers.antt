@@ -1,10 +1,10 @@
 use Rattle.std.proofs.Common.{◌≡◌, ℕ, Some, refl, sym, ap, ◌∙◌, subst}
 use Rattle.mm_types.specs.{Frame}
 use Rattle.mm_types.specs.declared.moves.Move.TheVariants as move
-use Rattle.mm_words.specs.Shown as tables
-use Rattle.mm_words.specs.{IsEntry, with_entry, keeps_places}
-use Rattle.mm_life.specs.{record_at, after_steal}
-use Rattle.mm_frames.specs.{FramesOf, standby_taken, free_put}
+use Rattle.mm_page_tables.specs.Shown as tables
+use Rattle.mm_page_tables.specs.{IsEntry, with_entry, keeps_places}
+use Rattle.mm_move_rules.specs.{record_at, after_steal}
+use Rattle.mm_pfn_database.specs.{FramesOf, standby_taken, free_put}
 use Rattle.mm_parts.specs.{joined_parts, shown_parts, front, home_entry, parts_after}
 use Rattle.mm_parts.proofs.{front_is, stolen_table, Step, step_to, steal_can, steal_step}
 use Rattle.mm_parts.proofs.parts.Parts.steal.Goals as goal

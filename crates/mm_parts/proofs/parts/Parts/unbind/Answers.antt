@@ -1,4 +1,4 @@
-use Rattle.mm_words.specs.{place_from, pages}
+use Rattle.mm_page_tables.specs.{place_from, pages}
 use Rattle.mm_parts.specs.{joined_parts}
 use Rattle.mm_parts.proofs.{unbind_step, givable, invalid_entry, no_place, words_step}
 use Rattle.mm_parts.proofs.parts.Parts.unbind.Goals as goal

@@ -2,8 +2,8 @@ use Rattle.std.proofs.Common.{◌≡◌, Some, sym, ap, ◌∙◌}
 use Rattle.std.specs.Prelude.{◌==◌, is_some}
 use Rattle.mm_types.specs.{Record}
 use Rattle.mm_types.specs.declared.moves.Move.TheVariants as move
-use Rattle.mm_life.specs.{record_at, changed, same_place}
-use Rattle.mm_words.specs.Shown as tables
+use Rattle.mm_move_rules.specs.{record_at, changed, same_place}
+use Rattle.mm_page_tables.specs.Shown as tables
 use Rattle.mm_parts.specs.{joined_parts, shown_parts, parts_after}
 use Rattle.mm_parts.proofs.{Step, step_to, Leaving, leaving_told, leave_can, unmap_any_step}
 use Rattle.mm_parts.proofs.parts.Parts.unmap.Goals as goal

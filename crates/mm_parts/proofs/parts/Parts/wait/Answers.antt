@@ -1,6 +1,6 @@
 use Rattle.std.proofs.Common.{ap, ◌∙◌}
-use Rattle.mm_flight.specs.{FlightOf}
-use Rattle.mm_flight.specs.declared.flights.Waiting.TheVariants as waiting
+use Rattle.mm_requests.specs.{FlightOf}
+use Rattle.mm_requests.specs.declared.flights.Waiting.TheVariants as waiting
 use Rattle.mm_parts.specs.{joined_parts, waits_of}
 use Rattle.mm_parts.proofs.{step_to, read_flies, wait_step, new_wait, waits_set}
 use Rattle.mm_parts.proofs.parts.Parts.wait.Goals as goal

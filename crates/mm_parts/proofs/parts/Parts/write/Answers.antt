@@ -1,7 +1,7 @@
 use Rattle.std.proofs.Common.{ap, ◌∙◌}
 use Rattle.mm_types.proofs.{same_found}
 use Rattle.mm_types.specs.{Frame}
-use Rattle.mm_life.specs.{changed, same_place}
+use Rattle.mm_move_rules.specs.{changed, same_place}
 use Rattle.mm_ram.specs.{bytes_of, overwritten, with_page}
 use Rattle.mm_parts.specs.{joined_parts, shown_parts}
 use Rattle.mm_parts.proofs.{step_to, used_step, valid_entry}

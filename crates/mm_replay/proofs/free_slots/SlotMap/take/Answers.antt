@@ -1,5 +1,5 @@
 use Rattle.std.proofs.Common.{◌≡◌, ◌∙◌, List, Bool, true, ap, subst, sym}
-use Rattle.mm_life.specs.{is_lowest}
+use Rattle.mm_move_rules.specs.{is_lowest}
 use Rattle.mm_replay.specs.{AreApartFrom}
 use Rattle.mm_replay.proofs.{taken_next}
 use Rattle.mm_replay.proofs.free_slots.SlotMap.take.Goals as goal

@@ -1,5 +1,5 @@
 use Rattle.std.proofs.Common.{◌<◌, ◌++◌, ◌∷◌, [], Bool, List, subst, sym}
-use Rattle.mm_lists.specs.{ListsOf, list_at, with_list}
+use Rattle.mm_page_lists.specs.{ListsOf, list_at, with_list}
 use Rattle.mm_replay.specs.{FlightOf, AreLists, AreFlagged}
 use Rattle.mm_replay.proofs.{flagged_begun}
 use Rattle.mm_replay.proofs.in_flight.InFlight.begin.Goals as goal

@@ -1,6 +1,6 @@
 use Rattle.std.proofs.Common.{rules, ◌≡◌, map, false, Bool, List, slice_index_or, subst, sym}
-use Rattle.mm_life.specs.{without}
-use Rattle.mm_lists.specs.{ListsOf, without as without_number}
+use Rattle.mm_move_rules.specs.{without}
+use Rattle.mm_page_lists.specs.{ListsOf, without as without_number}
 use Rattle.mm_replay.specs.{FlightOf, AreLists, AreFlagged}
 use Rattle.mm_replay.proofs.{flagged_ended, flight_stays}
 use Rattle.mm_replay.proofs.in_flight.InFlight.end.Goals as goal

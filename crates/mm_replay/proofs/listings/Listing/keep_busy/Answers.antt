@@ -1,5 +1,5 @@
 use Rattle.std.proofs.Common.{◌∙◌, ap}
-use Rattle.mm_life.specs.{is_idle}
+use Rattle.mm_move_rules.specs.{is_idle}
 use Rattle.mm_replay.specs.{is_owned}
 use Rattle.mm_replay.proofs.{busy_kept}
 use Rattle.mm_replay.proofs.listings.Listing.keep_busy.Goals as goal

@@ -1,6 +1,6 @@
 use Rattle.std.proofs.Common.{◌∙◌, ap, subst, sym}
-use Rattle.mm_life.specs.{is_idle}
-use Rattle.mm_lists.specs.{ListsOf}
+use Rattle.mm_move_rules.specs.{is_idle}
+use Rattle.mm_page_lists.specs.{ListsOf}
 use Rattle.mm_replay.specs.{AreLists, Off, table_of}
 use Rattle.mm_replay.proofs.{off_left, busy_off, table_left, table_stays}
 use Rattle.mm_replay.proofs.listings.Listing.leave.Goals as goal

@@ -1,5 +1,5 @@
 use Rattle.std.proofs.Common.{subst, sym}
-use Rattle.mm_lists.specs.{ListsOf}
+use Rattle.mm_page_lists.specs.{ListsOf}
 use Rattle.mm_replay.specs.{AreLists, Kept}
 use Rattle.mm_replay.proofs.{put_kept}
 use Rattle.mm_replay.proofs.listings.Listing.put.Goals as goal

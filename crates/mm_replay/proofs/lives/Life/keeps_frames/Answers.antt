@@ -1,5 +1,5 @@
 use Rattle.std.proofs.Common.{◌∙◌, arith}
-use Rattle.mm_laws.proofs.{facts_of, total}
+use Rattle.mm_move_laws.proofs.{facts_of, total}
 use Rattle.mm_replay.specs.Standing.{life}
 use Rattle.mm_replay.proofs.lives.Life.keeps_frames.Goals as goal
 

@@ -1,4 +1,4 @@
-use Rattle.mm_laws.proofs.{facts_of}
+use Rattle.mm_move_laws.proofs.{facts_of}
 use Rattle.mm_replay.specs.Replaying.{life}
 use Rattle.mm_replay.proofs.{sound_of, reached_made}
 use Rattle.mm_replay.proofs.lives.Life.make.Goals as goal

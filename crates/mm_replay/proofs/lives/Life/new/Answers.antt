@@ -1,6 +1,6 @@
 use Rattle.std.proofs.Common.{subst, sym}
-use Rattle.mm_laws.specs.{ReachedByMoves}
-use Rattle.mm_laws.proofs.{reached_start}
+use Rattle.mm_move_laws.specs.{ReachedByMoves}
+use Rattle.mm_move_laws.proofs.{reached_start}
 use Rattle.mm_replay.proofs.lives.Life.new.Goals as goal
 
 pub invariant_of-result : goal.invariant_of-result

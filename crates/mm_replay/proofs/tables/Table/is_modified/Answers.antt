@@ -1,5 +1,5 @@
 use Rattle.std.proofs.Common.{◌∙◌, ap}
-use Rattle.mm_life.specs.{FrameTable, is_on}
+use Rattle.mm_move_rules.specs.{FrameTable, is_on}
 use Rattle.mm_replay.specs.{is_changed_page}
 use Rattle.mm_replay.proofs.{modified_here}
 use Rattle.mm_replay.proofs.tables.Table.is_modified.Goals as goal

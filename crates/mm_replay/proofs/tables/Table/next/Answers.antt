@@ -1,5 +1,5 @@
 use Rattle.std.proofs.Common.{◌≡◌, ◌<◌, true, length, sym, ap, ◌∙◌, subst, arith}
-use Rattle.mm_life.specs.{FrameTable, is_idle}
+use Rattle.mm_move_rules.specs.{FrameTable, is_idle}
 use Rattle.mm_replay.specs.{frames_on, record_of, IsBehind}
 use Rattle.mm_replay.proofs.{behind_frame}
 use Rattle.mm_replay.proofs.tables.Table.next.Goals as goal

@@ -1,7 +1,7 @@
 use Rattle.std.proofs.Common.{◌++◌, refl, ap, ◌∙◌}
 use Rattle.mm_types.specs.{Text}
 use Rattle.mm_replay.specs.Standing.{life}
-use Rattle.mm_classes.specs.{mark_before}
+use Rattle.mm_move_classes.specs.{mark_before}
 use Rattle.mm_show.specs.{classed_data, PageTeller}
 use Rattle.mm_show.proofs.{page_taken}
 use Rattle.mm_show.proofs.data.PageTellerTeller.take.Goals as goal

@@ -1,4 +1,4 @@
-use Rattle.mm_classes.specs.{marks_of}
+use Rattle.mm_move_classes.specs.{marks_of}
 use Rattle.mm_show.proofs.{few_none, sum_none}
 use Rattle.mm_show.proofs.sums.SumTeller.new.Goals as goal
 

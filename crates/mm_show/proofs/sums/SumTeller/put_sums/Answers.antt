@@ -1,7 +1,7 @@
 use Rattle.std.proofs.Common.{◌++◌, Option, ap, ◌∙◌}
 use Rattle.mm_replay.specs.Standing.{life}
-use Rattle.mm_classes.specs.{marks_of}
-use Rattle.mm_tell.specs.{class_list, Classed}
+use Rattle.mm_move_classes.specs.{marks_of}
+use Rattle.mm_log_walk.specs.{class_list, Classed}
 use Rattle.mm_show.specs.{of_class}
 use Rattle.mm_show.proofs.{sum_ended}
 use Rattle.mm_show.proofs.sums.SumTeller.put_sums.Goals as goal

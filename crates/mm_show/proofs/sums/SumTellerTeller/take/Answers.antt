@@ -1,8 +1,8 @@
 use Rattle.std.proofs.Common.{◌++◌, Option, ap, ◌∙◌}
 use Rattle.mm_types.specs.{Text}
 use Rattle.mm_replay.specs.Standing.{life}
-use Rattle.mm_classes.specs.{marks_of}
-use Rattle.mm_tell.specs.{class_list, Classed}
+use Rattle.mm_move_classes.specs.{marks_of}
+use Rattle.mm_log_walk.specs.{class_list, Classed}
 use Rattle.mm_show.specs.{of_class}
 use Rattle.mm_show.proofs.{sum_taken}
 use Rattle.mm_show.proofs.sums.SumTellerTeller.take.Goals as goal

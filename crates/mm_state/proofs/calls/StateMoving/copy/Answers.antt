@@ -1,5 +1,5 @@
 use Rattle.std.proofs.Common.{ℕ, List, Option, sym, ap, ◌∙◌}
-use Rattle.mm_life.specs.{record_at, changed, same_key, contents_of}
+use Rattle.mm_move_rules.specs.{record_at, changed, same_key, contents_of}
 use Rattle.mm_ram.specs.{bytes_of}
 use Rattle.mm_parts.specs.PartsShown as parts_of
 use Rattle.mm_frame_laws.proofs.{carries_written}

@@ -1,7 +1,7 @@
 use Rattle.std.proofs.Common.{refl, sym, ap, ◌∙◌, subst}
 use Rattle.mm_types.specs.{Record}
-use Rattle.mm_life.specs.{record_at, slot_of, is_read}
-use Rattle.mm_laws.specs.{is_backed, block_of}
+use Rattle.mm_move_rules.specs.{record_at, slot_of, is_read}
+use Rattle.mm_move_laws.specs.{is_backed, block_of}
 use Rattle.mm_parts.specs.{PartsOf, waits_of}
 use Rattle.mm_parts.specs.PartsShown as parts_of
 use Rattle.mm_frame_laws.proofs.{read_backed, slot_there, block_there}

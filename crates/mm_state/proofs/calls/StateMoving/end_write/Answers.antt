@@ -1,12 +1,12 @@
 use Rattle.std.proofs.Common.{sym, ap, ◌∙◌, subst}
 use Rattle.mm_types.specs.{Record}
-use Rattle.mm_life.specs.{slot_of}
-use Rattle.mm_laws.specs.{is_backed, block_of}
+use Rattle.mm_move_rules.specs.{slot_of}
+use Rattle.mm_move_laws.specs.{is_backed, block_of}
 use Rattle.mm_parts.specs.{PartsOf, waits_of}
 use Rattle.mm_parts.specs.PartsShown as parts_of
 use Rattle.mm_frame_laws.specs.{slots_written, blocks_written}
 use Rattle.mm_frame_laws.proofs.{write_backed, slot_there, block_there, page_of_key}
-use Rattle.mm_moving.specs.{written_if}
+use Rattle.mm_state_calls.specs.{written_if}
 use Rattle.mm_state.specs.{IsTallied}
 use Rattle.mm_state.proofs.{made_by_write, located_moved, rest_of, noted_at, ranged_at, tallied_write, slots_whole, blocks_whole, is_writing}
 use Rattle.mm_state.proofs.{write_low, write_legal, write_calm, write_carries, same_page, no_block}

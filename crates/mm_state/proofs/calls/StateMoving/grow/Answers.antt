@@ -4,7 +4,7 @@ use Rattle.mm_types.specs.declared.moves.Move.TheVariants as move
 use Rattle.mm_parts.specs.{parts_after, PartsOf, waits_of}
 use Rattle.mm_parts.specs.PartsShown as parts_of
 use Rattle.mm_frame_laws.proofs.{carries_at, carries_at_plain}
-use Rattle.mm_blocks.specs.{device_with}
+use Rattle.mm_devices.specs.{device_with}
 use Rattle.mm_state.specs.{IsTallied}
 use Rattle.mm_state.proofs.{begins_by, call_legal, carried_on, rest_called, tallied_none, whole_grown, whole_on}
 use Rattle.mm_state.proofs.calls.StateMoving.grow.Goals as goal

@@ -1,6 +1,6 @@
 use Rattle.std.proofs.Common.{refl, sym, subst}
 use Rattle.mm_types.specs.declared.moves.Move.TheVariants as move
-use Rattle.mm_life.specs.{record_at}
+use Rattle.mm_move_rules.specs.{record_at}
 use Rattle.mm_parts.specs.{PartsOf}
 use Rattle.mm_frame_laws.specs.{IsSoiled}
 use Rattle.mm_frame_laws.proofs.{carries_soil}

@@ -1,7 +1,7 @@
 use Rattle.std.proofs.Common.{refl, sym, ap, subst, ◌∙◌}
 use Rattle.mm_types.specs.{Frame}
 use Rattle.mm_types.specs.declared.moves.Move.TheVariants as move
-use Rattle.mm_life.specs.{record_at, is_read}
+use Rattle.mm_move_rules.specs.{record_at, is_read}
 use Rattle.mm_parts.specs.{PartsOf}
 use Rattle.mm_parts.specs.PartsShown as parts_of
 use Rattle.mm_frame_laws.proofs.{carries_read}

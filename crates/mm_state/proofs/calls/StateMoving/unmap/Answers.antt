@@ -1,6 +1,6 @@
 use Rattle.std.proofs.Common.{refl, ap, ◌∙◌}
 use Rattle.mm_types.specs.declared.moves.Move.TheVariants as move
-use Rattle.mm_life.specs.{record_at, set_of, is_below_max}
+use Rattle.mm_move_rules.specs.{record_at, set_of, is_below_max}
 use Rattle.mm_parts.specs.{PartsOf}
 use Rattle.mm_frame_laws.proofs.{carries_unmap}
 use Rattle.mm_state.proofs.{located_moved, made_moved, rest_of, unmap_requests, unmap_below}

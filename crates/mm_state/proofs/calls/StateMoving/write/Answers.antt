@@ -1,5 +1,5 @@
 use Rattle.std.proofs.Common.{ℕ, List, Some, sym, ap, ◌∙◌}
-use Rattle.mm_life.specs.{changed, same_key, contents_of}
+use Rattle.mm_move_rules.specs.{changed, same_key, contents_of}
 use Rattle.mm_ram.specs.{bytes_of, overwritten}
 use Rattle.mm_parts.specs.PartsShown as parts_of
 use Rattle.mm_parts.specs.{owners}

@@ -1,4 +1,4 @@
-use Rattle.mm_classes.specs.{marks_of}
+use Rattle.mm_move_classes.specs.{marks_of}
 use Rattle.mm_transcripts.proofs.{row_first}
 use Rattle.mm_transcripts.proofs.transcripts.TranscriptTeller.new.Goals as goal
 

@@ -1,9 +1,9 @@
 use Rattle.std.proofs.Common.{◌++◌, Option, ap, ◌∙◌}
-use Rattle.mm_life.specs.{FrameLife}
+use Rattle.mm_move_rules.specs.{FrameLife}
 use Rattle.mm_replay.specs.Standing.{life}
-use Rattle.mm_classes.specs.{marks_of}
+use Rattle.mm_move_classes.specs.{marks_of}
 use Rattle.mm_transcripts.specs.{ages_of, Beside, classed_row, beside_of, TranscriptTeller}
-use Rattle.mm_tell.specs.{Classed}
+use Rattle.mm_log_walk.specs.{Classed}
 use Rattle.mm_transcripts.proofs.{row_last}
 use Rattle.mm_transcripts.proofs.transcripts.TranscriptTellerTeller.finish.Goals as goal
 

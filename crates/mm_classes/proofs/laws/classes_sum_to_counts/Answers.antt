@@ -1,5 +1,0 @@
-use Rattle.mm_classes.proofs.{agrees}
-use Rattle.mm_classes.proofs.laws.classes_sum_to_counts.Goals as goal
-
-pub returns : goal.returns
-returns c = agrees

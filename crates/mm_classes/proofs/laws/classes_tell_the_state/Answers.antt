@@ -1,5 +1,0 @@
-use Rattle.mm_classes.proofs.{says}
-use Rattle.mm_classes.proofs.laws.classes_tell_the_state.Goals as goal
-
-pub returns : goal.returns
-returns c = says

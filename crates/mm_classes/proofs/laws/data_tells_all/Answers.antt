@@ -1,5 +1,0 @@
-use Rattle.mm_classes.proofs.{data_back}
-use Rattle.mm_classes.proofs.laws.data_tells_all.Goals as goal
-
-pub returns : goal.returns
-returns c = data_back

@@ -1,0 +1,129 @@
+ghost use Rattle.std.specs.Prelude.{◌≡◌, ◌≤◌, ◌+◌, true, false, OnOk, OnErr, IsOk};
+ghost use Rattle.mm_world.specs.{filled, first_world, charge, limit};
+ghost use Rattle.mm_store.specs.{IsNew};
+ghost use Rattle.mm_script.specs.{IsWellFormed};
+ghost use Rattle.mm_object_tables.specs.{FitsTables, MadeAtMost};
+ghost use Rattle.mm_dispatch.specs.Built.{is_machine, takes_memory};
+
+use crate::deciding::decide;
+use mm_store::Pages;
+use mm_object_tables::Tables;
+use mm_types::{Answer, Event, Machine, NoMemory};
+use std::alloc::Global;
+
+/// A machine's address spaces over a store of their pages.
+///
+/// After `NoMemory` it is spent: nothing is to be asked of it but its charge and its store. It is
+/// not let go, but given up for its store (`finish`).
+pub struct World<G: Pages> {
+    tables: Tables,
+    /// The store of the pages.
+    pub pages: G,
+    spent: bool,
+    ghost fits: { spent ≡ false → FitsTables tables (G.contents pages) (G.store pages) },
+    ghost few: { spent ≡ false → MadeAtMost (G.store pages).line tables },
+}
+
+impl<G: Pages> World<G> {
+    ghost use Rattle.mm_dispatch.specs.Promise.{Decides, Breaks, scene};
+    ghost use Rattle.mm_line_moves.specs.{Agrees};
+    ghost use Rattle.mm_dispatch.specs.Shown.{world, report, world_behind, line_number, loans};
+
+    /// The world after the `machine` line, over a new store of that machine. Over one that pages
+    /// its report is that of the frames behind it.
+    pub fn new(alloc: Global, machine: Machine, pages: G) -> World<G>
+        requires new { IsNew machine (G.contents pages) (G.store pages) }
+        ensures world { world result ≡ first_world machine }
+        ensures pages { result.pages ≡ pages }
+        ensures agrees { G.unpaged ≡ false →
+            Agrees (world result) (report result) (world_behind result) }
+        ensures ready { result.spent ≡ false }
+    {
+        pages.sound();
+        World {
+            tables: Tables::new(alloc, machine),
+            pages,
+            spent: false,
+        }
+    }
+
+    /// The store.
+    pub fn finish(self) -> G
+        ensures { result ≡ self.pages }
+    {
+        let World {
+            tables,
+            pages,
+            spent: _,
+        } = self;
+        tables.end();
+        pages
+    }
+
+    /// The commit charge and the commit limit, in pages.
+    #[tactic(auto, using(crate::proofs::With::charges))]
+    pub fn charge(&self) -> (u32, u32)
+        ensures charge { result.0 ≡ charge (world self.now) }
+        ensures limit { result.1 ≡ limit (world self.now) }
+        ensures within { charge (world self.now) ≤ limit (world self.now) }
+    {
+        self.tables.charge()
+    }
+
+    /// Decides one line, the next one, and writes its answer over the one that stands there: it is
+    /// that of the definitions' step from the world that there was, by the store's reports before
+    /// and after it, and the world that there is then is the step's.
+    ///
+    /// Each form is the Windows call that `mm_calls` name at its function, or this
+    /// profile's own. `line` is the number of the line in its script, where `machine` is line 1,
+    /// which is a world's beginning and no line for this call.
+    ///
+    /// `NoMemory` comes only from a `process` for which a number is left, an `alloc` that makes a
+    /// region or commits a page that was not, a `protect` that gives a page its first mark, a
+    /// `probe` that makes a stack grow, and a `file`, `create`, `createfile`, `open`, `map`, `grow`
+    /// or `stack` that is not refused. Then the world is as it was, what stands in the answer's
+    /// place is not told, and no further line can be decided. A failed access and a `fault` come
+    /// only where a device's count of faults rose in the line, or, of a `resume`, where the read
+    /// that its thread waited for failed before.
+    ///
+    /// What is told of a line that was decided is one record (`Decides`), and of one that ran out
+    /// of memory another (`Breaks`). Over a store that pages, the line's piece of the log of moves
+    /// is its `at` and the moves that its form allows (`ToldBeside`: `line`); after `NoMemory` it
+    /// is an `at` alone, or empty (`broken`).
+    #[tactic(auto, using(crate::proofs::Readiness::idle_in))]
+    pub fn step(
+        &mut self,
+        alloc: Global,
+        line: u32,
+        event: &Event,
+        answer: &mut Answer,
+    ) -> Result<(), NoMemory>
+        requires well_formed { IsWellFormed event.now }
+        requires later { is_machine event.now ≡ false }
+        requires next { line ≡ line_number self.old + 1 }
+        requires few { line ≤ 1000000 }
+        requires ready { self.old.spent ≡ false }
+        ensures decided { OnOk result
+            (Decides G.unpaged (scene self.old) event.now answer.new (scene self.new)) }
+        ensures broke { OnErr result (Breaks G.unpaged (scene self.old) (scene self.new)) }
+        ensures no_memory { takes_memory filled (world self.old) event.now ≡ false → IsOk result }
+        ensures line { OnOk result (line_number self.new ≡ line) }
+        ensures ready { OnOk result (self.new.spent ≡ false) }
+        ensures spent { OnErr result (self.new.spent ≡ true) }
+        ensures loans { loans self.new ≡ loans self.old }
+    {
+        self.pages.sound();
+        let result = decide(
+            alloc,
+            &mut self.tables,
+            &mut self.pages,
+            line,
+            event,
+            answer,
+        );
+        self.spent = result.is_err();
+        self.tables.sound();
+        self.pages.sound();
+        result
+    }
+}

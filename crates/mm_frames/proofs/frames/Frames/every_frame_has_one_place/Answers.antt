@@ -1,8 +1,0 @@
-use Rattle.mm_frames.proofs.{one_place, shown}
-use Rattle.mm_frames.proofs.frames.Frames.every_frame_has_one_place.Goals as goal
-
-pub returns-clause-placed : goal.returns-clause-placed
-returns-clause-placed c = shown c.self.invariant c.self.view_is
-
-pub returns-clause-one : goal.returns-clause-one
-returns-clause-one c = one_place (shown c.self.invariant c.self.view_is)

@@ -1,8 +1,0 @@
-use Rattle.std.proofs.Common.{◌≡◌}
-use Rattle.mm_life.specs.{numbers_from}
-use Rattle.mm_lists.specs.{AreApart}
-use Rattle.mm_frames.specs.{free_only}
-use Rattle.mm_frames.proofs.frames.push_all.Given as goal
-
-abbrev pub invariant-loop-f : goal.invariant-loop-f
-invariant-loop-f l = (l.lists ≡ record { numbers = l.n; lists = free_only (numbers_from 0 l.f) }) × AreApart l.lists

@@ -1,5 +1,0 @@
-use Rattle.mm_laws.proofs.{unmap_settles}
-use Rattle.mm_laws.proofs.ends.unmaps_settle_one_frame.Goals as goal
-
-pub returns : goal.returns
-returns c = λ l s place f. unmap_settles l s f place

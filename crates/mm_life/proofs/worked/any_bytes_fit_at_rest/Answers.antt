@@ -1,5 +1,0 @@
-use Rattle.mm_life.proofs.{located_at_start}
-use Rattle.mm_life.proofs.worked.any_bytes_fit_at_rest.Goals as goal
-
-pub returns : goal.returns
-returns c = located_at_start

@@ -1,8 +1,0 @@
-use Rattle.mm_life.proofs.{replay_of, replays_from}
-use Rattle.mm_life.proofs.worked.replay_computes_where_moves_lead.Goals as goal
-
-pub returns-clause-comes : goal.returns-clause-comes
-returns-clause-comes c = replay_of
-
-pub returns-clause-leads : goal.returns-clause-leads
-returns-clause-leads c = replays_from

@@ -1,5 +1,0 @@
-use Rattle.mm_paging.proofs.{one_log}
-use Rattle.mm_paging.proofs.laws.lines_have_one_log.Goals as goal
-
-pub returns : goal.returns
-returns = λ c w v e a b d f xs ys h s p q k. one_log w v a b d f xs ys e h s p q k

@@ -1,4 +1,0 @@
-use Rattle.mm_spaces.proofs.spaces.AddressSpace.info.Goals as goal
-
-pub region_info-requires-clause-private : goal.region_info-requires-clause-private
-region_info-requires-clause-private c = c.in-Private.is

@@ -1,4 +1,0 @@
-use Rattle.mm_tables.proofs.keys.+release_some.Given as goal
-
-abbrev pub decreases-release_some : goal.decreases-release_some
-decreases-release_some g l = l.range.count

@@ -1,0 +1,52 @@
+-- What the bound places show, each as a function of the place.
+use Rattle.std.specs.Prelude.{ℕ, Bool, false, if◌then◌else◌, is_some, Option, Some, None}
+use Rattle.std.specs.List.{sum_by}
+use Rattle.std.specs.HashMap.{get, values}
+use Rattle.mm_types.specs.{Key, Place, Range}
+use Rattle.mm_types.specs.contracts.numbers.PlacePartialEq.TheImpl as place_equality
+use Rattle.mm_world.specs.{Page}
+use Rattle.mm_unpaged.specs.declared.places.BoundPlace.{BoundPlace}
+use Rattle.mm_unpaged.specs.declared.places.Places.{Places}
+
+abbrev pub place_eq : Place → Place → Bool
+place_eq = (place_equality.ghosts).eq
+
+abbrev pub found_in : Places → Place → Option BoundPlace
+found_in places place = get place_eq places.map place
+
+abbrev pub named_by : Option BoundPlace → Option Key
+named_by None = None
+named_by (Some place) = place.named
+
+abbrev pub page_of : Option BoundPlace → Option Page
+page_of None = None
+page_of (Some place) = place.page
+
+abbrev pub bound_in : Places → Place → Bool
+bound_in places place = is_some (found_in places place)
+
+abbrev pub names_in : Places → Place → Option Key
+names_in places place = named_by (found_in places place)
+
+abbrev pub pages_at : Places → Place → Option Page
+pages_at places place = page_of (found_in places place)
+
+-- how many pages there are
+abbrev pub page_count : BoundPlace → ℕ
+page_count place = if is_some place.page then 1 else 0
+
+abbrev pub pages_in : Places → ℕ
+pages_in places = sum_by page_count (values places.map)
+
+-- this many pages, from one on
+abbrev pub pages_from : ℕ → ℕ → Range
+pages_from first count = record { first = first; count = count }
+
+abbrev pub no_place : Place → Bool
+no_place _ = false
+
+abbrev pub no_name : Place → Option Key
+no_name _ = None
+
+abbrev pub no_page : Place → Option Page
+no_page _ = None

@@ -1,5 +1,0 @@
-use Rattle.mm_words.proofs.{new_shown}
-use Rattle.mm_words.proofs.tables.Words.new.Goals as goal
-
-pub returns-clause-words : goal.returns-clause-words
-returns-clause-words c = new_shown c.in_ok-processes.processes.items c.new.result c.in_ok-processes.ensures.items c.new.ensures
