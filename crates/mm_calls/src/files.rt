@@ -9,9 +9,9 @@ ghost use Rattle.mm_calls.specs.{AreHeld, InBlocks, keys_from, flushed_keys, Beg
 ghost use Rattle.mm_calls.specs.{HoldsPages, FailsWrite};
 
 use crate::views::view_of;
-use mm_store::Pages;
 use mm_address_spaces::PageRange;
 use mm_object_tables::Tables;
+use mm_store::Pages;
 use mm_types::{Answer, Area, Block, Code, Key, MakeFault, Name, NoMemory, Pid, View, WriteFault};
 use std::alloc::Global;
 

@@ -4,8 +4,8 @@ ghost use Rattle.mm_store.specs.{begun, NotesIn};
 ghost use Rattle.mm_calls.specs.{GrowsBy, BeginsProcess, BeginsRelease, AnswersCall, ChangesNothing, LosesPages, AnswersGrow};
 ghost use Rattle.mm_object_tables.specs.{FitsTables, StaysIdle};
 
-use mm_store::Pages;
 use mm_object_tables::Tables;
+use mm_store::Pages;
 use mm_types::{Answer, Code, GrowFault, LineKind, NoMemory, Pid};
 use std::alloc::Global;
 

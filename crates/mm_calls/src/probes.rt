@@ -8,9 +8,9 @@ ghost use Rattle.mm_calls.specs.{grows, guard_lowered, BeginsCall, AnswersCall, 
 ghost use Rattle.mm_object_tables.specs.{IsReadyFor, MakesPages, SettlesTables};
 
 use crate::commit;
-use mm_store::Pages;
 use mm_address_spaces::PageRange;
 use mm_object_tables::{Tables, ThreadStack};
+use mm_store::Pages;
 use mm_types::{Access, Answer, NoMemory, PAGE_SIZE, Prot, Raise, Tid, permits};
 
 /// Whether a stack cannot grow any more: the page below its guard page is its lowest one, or is not

@@ -10,9 +10,9 @@ ghost use Rattle.mm_object_tables.specs.{IsFew, IsReadyFor, MakesPages, PassesAs
 ghost use Rattle.mm_calls.specs.{make_section, BeginsCall, AnswersCall, MakesIn, LacksMemory, StaysSettled};
 
 use crate::parameters::{are_section_flags, are_section_parameters, is_reserve, section_prot};
-use mm_store::Pages;
 use mm_address_spaces::pages_for;
 use mm_object_tables::Tables;
+use mm_store::Pages;
 use mm_types::{Answer, Area, Code, Name, NoMemory, Pid, SectionId};
 use std::alloc::Global;
 

@@ -10,9 +10,9 @@ ghost use Rattle.mm_object_tables.specs.{Settled, IsNewPlace, IsNewRange, IsRead
 ghost use Rattle.mm_calls.specs.{IsUncommitted, IsReserved, reserved_region, IsTallEnough, BeginsCall, AnswersCall, LacksMemory, StaysFit};
 ghost use Rattle.mm_calls.specs.{HasRoomFor, MakesInRange, MakesStackPages};
 
-use mm_store::Pages;
 use mm_address_spaces::{PageRange, pages_for};
 use mm_object_tables::{Tables, ThreadStack};
+use mm_store::Pages;
 use mm_types::{AllocFlags, Answer, Code, GRANULE_PAGES, NoMemory, PAGE_SIZE, Pid, Prot, Tid};
 use std::alloc::Global;
 

@@ -9,9 +9,9 @@ ghost use Rattle.mm_object_tables.specs.{IsReadyFor, SettlesTables, StaysIdle};
 ghost use Rattle.mm_calls.specs.{are_viewed, place_view, map_section, BeginsCall, BeginsRelease, AnswersCall, MakesIn, LacksMemory, LosesPages};
 
 use crate::parameters::{is_granule_address, may_view, view_access};
-use mm_store::Pages;
 use mm_address_spaces::pages_for;
 use mm_object_tables::Tables;
+use mm_store::Pages;
 use mm_types::{Answer, Code, Kind, NoMemory, PAGE_SIZE, Pid, View, ViewAccess};
 use std::alloc::Global;
 

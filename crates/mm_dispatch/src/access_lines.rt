@@ -10,8 +10,8 @@ ghost use Rattle.mm_dispatch.specs.{Admits, Marks, AnswersLine, IsNext, LieInPag
 use crate::beginning::begin_on;
 use crate::fetching::{fetch, put, put_copy, read_bytes};
 use crate::refusals::admit;
-use mm_store::Pages;
 use mm_object_tables::{CommittedRow, Tables};
+use mm_store::Pages;
 use mm_types::{Access, Answer, ByteBuf, Code, LineKind, PAGE_SIZE, Pid, Raise};
 
 /// Reads 1 to 64 bytes, which the row of their page permits.

@@ -2,8 +2,8 @@ ghost use Rattle.std.specs.Prelude.{◌≡◌, ◌+◌, true, if◌then◌else�
 ghost use Rattle.mm_types.specs.declared.moves.LineKind.TheVariants as line_kind;
 ghost use Rattle.mm_dispatch.specs.{is_plain_kind, IsNext, StartsLine, StartsCall, StartsOn, StartsRelease};
 
-use mm_store::Pages;
 use mm_object_tables::Tables;
+use mm_store::Pages;
 use mm_types::{LineKind, Pid};
 
 /// Begins a line that names no numbers of its own.

@@ -6,8 +6,8 @@ use mm_calls::{
     close, create, create_file, map, open_section, probe, protect, query, reset_watch, stack,
     valloc, watch,
 };
-use mm_store::Pages;
 use mm_object_tables::Tables;
+use mm_store::Pages;
 use mm_types::{Answer, Event, NoMemory};
 use std::alloc::Global;
 

@@ -9,8 +9,8 @@ use crate::forgetting::forget_waits;
 use crate::paging_lines::paging_line;
 use crate::thread_lines::{begin_line, resume_line};
 use mm_calls::{end_process, flush_view, grow_paging, new_file, new_process, unmap, vfree};
-use mm_store::Pages;
 use mm_object_tables::Tables;
+use mm_store::Pages;
 use mm_types::{Answer, Event, LineKind, NoMemory};
 use std::alloc::Global;
 

@@ -6,8 +6,8 @@ ghost use Rattle.mm_store.specs.Reports.{Ends};
 ghost use Rattle.mm_object_tables.specs.{key_bytes};
 ghost use Rattle.mm_dispatch.specs.{LieInPage, CanReach, CanCopy, HasOwn, OwnsPage, Touched, Copied};
 
-use mm_store::Pages;
 use mm_object_tables::{CommittedRow, Tables};
+use mm_store::Pages;
 use mm_types::{ByteBuf, Key, PAGE_SIZE, PageFault, Pid, Place, Vpn};
 
 /// The page of an address, as a place of a process.

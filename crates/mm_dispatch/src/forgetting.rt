@@ -2,8 +2,8 @@ ghost use Rattle.std.specs.Prelude.{◌≡◌, false};
 ghost use Rattle.mm_world.specs.{kept_by};
 ghost use Rattle.mm_dispatch.specs.{Forgot, is_of_process, waits_but, waited, IdlesIn, IdlesBut};
 
-use mm_store::Pages;
 use mm_object_tables::Tables;
+use mm_store::Pages;
 use mm_types::{Pid, THREADS, Tid};
 
 /// Whether a thread keeps an access of the process.

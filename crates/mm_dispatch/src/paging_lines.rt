@@ -2,8 +2,8 @@ ghost use Rattle.std.specs.Prelude.{◌≡◌, true, Ok};
 ghost use Rattle.mm_dispatch.specs.{is_paging_line, CanDecide, TakesLine};
 
 use crate::beginning::{begin, begin_call, begin_on};
-use mm_store::{Done, Pages};
 use mm_object_tables::Tables;
+use mm_store::{Done, Pages};
 use mm_types::{Answer, Code, Event, LineKind};
 
 /// How many `fail` lines a run takes.

@@ -7,8 +7,8 @@ ghost use Rattle.mm_dispatch.specs.{EndsWaits, KeepsOver, AnswersLine, IsNext, E
 
 use crate::beginning::{begin, begin_on};
 use crate::threads::{Threaded, access_on};
-use mm_store::Pages;
 use mm_object_tables::Tables;
+use mm_store::Pages;
 use mm_types::{AccessSpec, Answer, Code, LineKind, Pid, Raise, Tid, Wait};
 
 /// Decides a `begin` line (own): an access of a thread that waits for no device. The thread keeps

@@ -10,8 +10,8 @@ ghost use Rattle.mm_dispatch.specs.AccessPromises.{CanTurn, ReadyFor, TurnsAcces
 use crate::access_lines::{read_at, write_row};
 use crate::fetching::place_of;
 use crate::refusals::admit;
-use mm_store::{Need, Pages, Start};
 use mm_object_tables::{CommittedRow, Tables};
+use mm_store::{Need, Pages, Start};
 use mm_types::{Access, AccessSpec, Answer, Pid, Tid, Why};
 
 /// How an access of a thread went.

@@ -6,8 +6,8 @@ ghost use Rattle.mm_object_tables.specs.{FitsTables, MadeAtMost};
 ghost use Rattle.mm_dispatch.specs.Built.{is_machine, takes_memory};
 
 use crate::deciding::decide;
-use mm_store::Pages;
 use mm_object_tables::Tables;
+use mm_store::Pages;
 use mm_types::{Answer, Event, Machine, NoMemory};
 use std::alloc::Global;
 

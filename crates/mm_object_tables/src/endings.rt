@@ -17,9 +17,9 @@ ghost use Rattle.mm_world.specs.WellFormed.{WellFormed};
 use crate::Tables;
 use crate::keys::{end_area, release_pages};
 use crate::tables::{Process, handles_of, space_of};
-use mm_store::Pages;
-use mm_sections::Directory;
 use mm_address_spaces::{PageRange, RegionInfo};
+use mm_sections::Directory;
+use mm_store::Pages;
 use mm_types::{Area, Kind, PAGE_SIZE, Pid, SectionId, View};
 
 /// One handle less refers to a section. Tells its control area, where it ended.

@@ -9,10 +9,10 @@ ghost use Rattle.mm_store.specs.Housekeeping.{Ends};
 ghost use Rattle.mm_store.specs.Leaving.{Leaving};
 ghost use Rattle.mm_address_spaces.specs.{owned_in};
 
-use mm_commit_charge::Commit;
-use mm_store::Pages;
-use mm_sections::SectionPages;
 use mm_address_spaces::{AddressSpace, PageRange};
+use mm_commit_charge::Commit;
+use mm_sections::SectionPages;
+use mm_store::Pages;
 use mm_types::{Area, Key, Pid, Vpn};
 
 /// So many pages are gone through one by one, where some have bytes of their own.

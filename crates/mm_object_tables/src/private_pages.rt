@@ -11,9 +11,9 @@ ghost use Rattle.mm_types.specs.declared.moves.LineKind.TheVariants as line_kind
 
 use crate::tables::space_of;
 use crate::{Tables, keys};
+use mm_address_spaces::{AddressSpace, NewRegion, PageRange};
 use mm_commit_charge::Commit;
 use mm_store::Pages;
-use mm_address_spaces::{AddressSpace, NewRegion, PageRange};
 use mm_types::{NoMemory, Pid, Vpn};
 use std::alloc::Global;
 

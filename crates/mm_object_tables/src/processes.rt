@@ -11,9 +11,9 @@ ghost use Rattle.mm_types.specs.declared.moves.LineKind.TheVariants as line_kind
 use crate::Tables;
 use crate::private_pages::take;
 use crate::tables::{Process, space_of};
-use mm_store::Pages;
-use mm_sections::Handles;
 use mm_address_spaces::{AddressSpace, PageRange};
+use mm_sections::Handles;
+use mm_store::Pages;
 use mm_types::{Machine, NoMemory, Pid};
 use std::alloc::Global;
 

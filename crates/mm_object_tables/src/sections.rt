@@ -12,8 +12,8 @@ ghost use Rattle.mm_types.specs.declared.moves.LineKind.TheVariants as line_kind
 use crate::Tables;
 use crate::private_pages::take;
 use crate::tables::handles_of;
-use mm_store::Pages;
 use mm_sections::{Directory, Handles, SectionPages};
+use mm_store::Pages;
 use mm_types::{Area, Block, Key, MakeFault, Name, NoMemory, Pid, Prot, SectionId};
 use std::alloc::Global;
 

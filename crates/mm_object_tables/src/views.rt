@@ -12,9 +12,9 @@ ghost use Rattle.mm_object_tables.specs.{SettlesTables, SharesPages, region_of_v
 use crate::Tables;
 use crate::private_pages::{grow_for_region, take};
 use crate::tables::space_of;
-use mm_store::Pages;
-use mm_sections::SectionPages;
 use mm_address_spaces::{AddressSpace, NewRegion, PageRange};
+use mm_sections::SectionPages;
+use mm_store::Pages;
 use mm_types::{Area, Key, Kind, NoMemory, Pid, View, ViewAccess};
 use std::alloc::Global;
 

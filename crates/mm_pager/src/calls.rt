@@ -8,9 +8,9 @@ use crate::making::build_file;
 use crate::paged::{Paged, Wanted};
 use crate::releasing::{let_all_go, let_own_go};
 use crate::starting::{ready_for, set_wait, start_key};
+use mm_reclaim::{trim, write_out, zero};
 use mm_state_calls::Moving;
 use mm_store::{Done, FlushesMoves, Need, Pages, Start};
-use mm_reclaim::{trim, write_out, zero};
 use mm_types::{
     Area, Block, Counts, Device, Direction, Failed, GrowFault, Key, LineKind, MakeFault, NoMemory,
     PageFault, Pid, Place, Tid, Vpn, Wait, WriteFault,

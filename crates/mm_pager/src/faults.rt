@@ -10,8 +10,8 @@ ghost use Rattle.mm_types.specs.declared.moves.Move.TheVariants as move;
 ghost use Rattle.mm_pager.specs.{Went, InQuietFrame, Soils, FindsNone, Frees, Readies, MayReadIn, MayUse, HasFullSet, MayFault, GivesFrame, Brings};
 ghost use Rattle.mm_pager.specs.{FailsToBring, PutsAtPlace, Faulted, FaultsToWrite};
 
-use mm_state_calls::Moving;
 use mm_reclaim::{NoFrame, find_frame};
+use mm_state_calls::Moving;
 use mm_types::{Frame, Held, Key, PageFault, Place, Record, Request};
 
 /// Whether no frame can be taken at once.

@@ -10,9 +10,9 @@ ghost use Rattle.mm_page_tables.specs.Shown as tables;
 
 use crate::backings::{give_back, home};
 use crate::parts::Parts;
+use mm_page_tables::{Entry, Words};
 use mm_pfn_database::{Frames, Stolen};
 use mm_types::{Block, Frame, Key, LineKind, Place, Slot};
-use mm_page_tables::{Entry, Words};
 
 /// The page of an entry is no more: its frame goes, unless a request holds it. Answers the slot to
 /// give back.

@@ -12,10 +12,10 @@ use mm_devices::{Blocks, Injected};
 use mm_dispatch::World;
 use mm_io::{Held, Sink, Source};
 use mm_log_writer::Recorder;
-use mm_state_calls::Moving;
 use mm_pager::Paged;
-use mm_store::FlushesMoves;
 use mm_state::State;
+use mm_state_calls::Moving;
+use mm_store::FlushesMoves;
 use mm_types::{Answer, Event, Machine, OpenFault};
 use std::alloc::Global;
 

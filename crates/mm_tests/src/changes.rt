@@ -13,9 +13,9 @@ use crate::behind::{write_block, write_frame, write_slot};
 use mm_devices::Inject;
 use mm_dispatch::World;
 use mm_log_writer::Moves;
-use mm_state_calls::Moving;
 use mm_pager::Paged;
 use mm_state::State;
+use mm_state_calls::Moving;
 use mm_types::{Backing, Block, Frame, Request, Slot};
 
 /// What is changed behind a layer: the first byte of frame 0, or all bytes of slot 0 or block 0.

@@ -5,8 +5,8 @@ ghost use Rattle.mm_dispatch.specs.{is_machine, line_number};
 
 use mm_devices::{Blocks, MemBlocks};
 use mm_dispatch::{World, is_machine};
-use mm_store::Pages;
 use mm_script::parse_line;
+use mm_store::Pages;
 use mm_text::{LineBuf, spell};
 use mm_types::{Answer, Event, NoMemory};
 use std::alloc::Global;

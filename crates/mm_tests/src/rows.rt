@@ -6,10 +6,10 @@ ghost use Rattle.mm_dispatch.specs.{line_number};
 use crate::lines::{Stopped, opened, read_line};
 use mm_devices::{Injected, MemBlocks};
 use mm_dispatch::World;
-use mm_store::Pages;
-use mm_unpaged::Plain;
 use mm_script::parse_line;
+use mm_store::Pages;
 use mm_types::{Event, Machine};
+use mm_unpaged::Plain;
 use std::alloc::Global;
 use std::test::Fail;
 

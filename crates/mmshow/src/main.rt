@@ -1,8 +1,8 @@
 //! Shows a log of moves on standard input, as a page for a browser and as texts for the terminal.
 #![tactic(auto)]
 
-use mm_io::{StdSink, StdSource, buffered, exit_code, words};
 use mm_html::{UP_TO_ANSWERS, UP_TO_CLASSES, UP_TO_END, UP_TO_MOVES, UP_TO_SCRIPT};
+use mm_io::{StdSink, StdSource, buffered, exit_code, words};
 use mm_show::{PageTexts, run_show};
 use mm_types::NoMemory;
 use std::alloc::Global;
