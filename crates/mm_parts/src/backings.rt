@@ -46,6 +46,6 @@ pub(crate) fn give_back(slots: &mut Slots, slot: Option<Slot>)
     ensures { slots.new.free ≡ freed slots.old.free (option_map (λ t. t.0) slot) }
 {
     if let Some(s) = slot {
-        slots.give(s);
+        slots.put_back(s);
     }
 }
