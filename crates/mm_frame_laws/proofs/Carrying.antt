@@ -11,10 +11,10 @@ use Rattle.mm_move_laws.specs.{is_backed, block_of, block_in, block_held, Reache
 use Rattle.mm_move_laws.proofs.{same_key-true, write_has, some_owner, facts_of, three_parts}
 use Rattle.mm_frame_laws.specs.{Carries, slots_written, blocks_written, slots_grown}
 use Rattle.mm_move_laws.proofs.Facts.{Facts}
-use Rattle.mm_frame_laws.proofs.StateCalls.{others_set, here_set, records_ended, zeroed_ended, asked_low, calm_in}
+use Rattle.mm_frame_laws.proofs.Moving.{others_set, here_set, records_ended, zeroed_ended, asked_low, calm_in}
 use Rattle.mm_move_rules.proofs.{write_not_read, read_has, located_at_start}
 use Rattle.std.proofs.lemmas.List.{length-replicate}
-pub use Rattle.mm_frame_laws.proofs.StateCalls.{carries_map, carries_unmap, carries_soil, carries_write, carries_lost}
+pub use Rattle.mm_frame_laws.proofs.Moving.{carries_map, carries_unmap, carries_soil, carries_write, carries_lost}
 pub use Rattle.mm_frame_laws.proofs.KeyMoves.{carries_clear, carries_got, carries_written, carries_give, carries_read, carries_steal, carries_bad, carries_add_zero, carries_add_block, carries_drop}
 use Rattle.mm_types.specs.declared.frames.Backing.TheVariants as backing
 use Rattle.mm_types.specs.declared.frames.Request.TheVariants as request

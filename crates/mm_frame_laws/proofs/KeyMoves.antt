@@ -12,7 +12,7 @@ use Rattle.mm_move_laws.proofs.{three_parts, key_or_not}
 use Rattle.mm_move_laws.specs.{Sight, sight, ReachedByMoves}
 use Rattle.mm_frame_laws.specs.{Carries, IsSoiled, is_calm}
 use Rattle.mm_move_laws.proofs.Facts.{Facts}
-use Rattle.mm_frame_laws.proofs.StateCalls.{calm_in, read_in, one_moves, clean_by, same_live, same_contents, alone_set, others_set, here_set, carries_kept, owned_low, asked_low, first_on, rest_on, push_on, home_bytes, elsewhere, records_ended, zeroed_ended}
+use Rattle.mm_frame_laws.proofs.Moving.{calm_in, read_in, one_moves, clean_by, same_live, same_contents, alone_set, others_set, here_set, carries_kept, owned_low, asked_low, first_on, rest_on, push_on, home_bytes, elsewhere, records_ended, zeroed_ended}
 use Rattle.mm_move_rules.proofs.{home_lives, stored_lives, calm}
 use Rattle.mm_types.proofs.{is_there, same_or_not}
 use Rattle.mm_ram.specs.{with_page}

@@ -2,7 +2,7 @@ pub mod Counting
 pub mod Ordering
 pub mod Writing
 pub mod Walks
-pub mod StateCalls
+pub mod Moving
 pub mod KeyMoves
 pub mod Carrying
 pub use Counting.{on_times}
@@ -19,7 +19,7 @@ pub use Walks.{or_none, passes_first, passes_none, turn_failed, turn_failed_fewe
 pub use Walks.{turn_fewer, turn_in, turn_kept, turn_wrote_in, turns_end, walk_begins, walk_ends_in}
 pub use Walks.{walk_failed_in, walk_fails, walk_in, walk_on, walk_passes, walk_passes_all}
 pub use Walks.{walk_then, walk_wrote_in, writers_same, writes_same}
-pub use StateCalls.{asked_low, here_set, home_bytes, others_set, owned_low, records_ended, shown_calm}
+pub use Moving.{asked_low, here_set, home_bytes, others_set, owned_low, records_ended, shown_calm}
 pub use KeyMoves.{calm_is}
 pub use Carrying.{block_there, carries_add_block, carries_add_zero, carries_at, carries_at_plain}
 pub use Carrying.{carries_bad, carries_block, carries_clear, carries_drop, carries_give}

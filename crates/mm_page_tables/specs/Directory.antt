@@ -1,7 +1,7 @@
 -- A page table as its leaves, each with the words of `leaf_pages` pages in a row.
 use Rattle.std.specs.Prelude.{◌≡◌, ℕ, zero, suc, ◌+◌, ◌*◌, ◌/◌, ◌%◌, ◌<◌, ◌≤◌, List, [], ◌∷◌, length, Option, slice_index_or, slice_set}
 use Rattle.mm_types.specs.{table}
-use Rattle.mm_page_tables.specs.PageStore.{Words}
+use Rattle.mm_page_tables.specs.Pages.{Words}
 use Rattle.mm_page_tables.specs.LeafWords.{leaf_pages, leaf_word, Changed}
 
 abbrev pub LeavesOf : Type 0

@@ -2,7 +2,7 @@
 use Rattle.std.specs.Prelude.{◌≡◌, ℕ, ◌+◌, ◌/◌, ◌<◌, ◌≤◌, Bool, true, false, List, [], ◌∷◌, length, Option, Some, None, if◌then◌else◌, map, slice_index, slice_index_or}
 use Rattle.std.specs.List.{range_with_len}
 use Rattle.mm_bits.specs.{have_bit}
-use Rattle.mm_page_tables.specs.PageStore.{reserved_word}
+use Rattle.mm_page_tables.specs.Pages.{reserved_word}
 
 -- how many pages a leaf has words for
 abbrev pub leaf_pages : ℕ

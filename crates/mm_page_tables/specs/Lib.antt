@@ -5,7 +5,7 @@ pub mod Tables
 pub mod Shown
 pub mod Oldest
 pub mod Prototypes
-pub mod PageStore
+pub mod Pages
 pub mod LeafWords
 pub mod Directory
 pub mod Layout
@@ -20,7 +20,7 @@ pub use Tables.{AsideBound, age_of_place, at_in, bound_in, is_open_in, process_i
 pub use Shown.{bare_aside, no_ages, no_words, proto_in, shown_words, size_in, words}
 pub use Oldest.{GoesBehind, IsOldestOf, NoneBehind, ages_in}
 pub use Prototypes.{AreaWords, area_words, proto_word, words_in}
-pub use PageStore.{AreReserved, Releases, Reserves, pages, reserved_word}
+pub use Pages.{AreReserved, Releases, Reserves, pages, reserved_word}
 pub use LeafWords.{Changed, IsLeaf, bit_numbers, leaf_numbers, leaf_pages, leaf_word, number_when}
 pub use LeafWords.{place_count, stored_word, word_when}
 unfoldable pub use LeafWords.{shown_leaf}

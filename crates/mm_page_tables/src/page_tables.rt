@@ -2,7 +2,7 @@ ghost use Rattle.std.specs.Prelude.{◌≡◌, ◌==◌, ◌+◌, ◌*◌, ◌/�
 ghost use Rattle.std.specs.Ordering.{nat_cmp};
 ghost use Rattle.std.specs.FinMap as finite;
 ghost use Rattle.mm_types.specs.{first_user_page, end_of_user_pages};
-ghost use Rattle.mm_page_tables.specs.PageStore.{pages, Reserves, Releases, AreReserved};
+ghost use Rattle.mm_page_tables.specs.Pages.{pages, Reserves, Releases, AreReserved};
 ghost use Rattle.mm_page_tables.specs.LeafWords.{word_when};
 ghost use Rattle.mm_page_tables.specs.Directory.{word_in, IsInLeaf, HavePlaces, KeepsPlaces, PlacesMore, Changes, IsPart, with_leaf_word, IsDirectory, end_of_pages, most_leaves};
 

@@ -4,7 +4,7 @@ ghost use Rattle.mm_move_rules.specs.{changed};
 ghost use Rattle.mm_page_tables.specs.Layout.{IsEntry};
 ghost use Rattle.mm_page_tables.specs.declared.layout.Entry.TheVariants as entry;
 ghost use Rattle.mm_working_sets.specs.{older};
-ghost use Rattle.mm_page_tables.specs.PageStore.{pages};
+ghost use Rattle.mm_page_tables.specs.Pages.{pages};
 ghost use Rattle.mm_types.specs.{holds_page, first_user_page, end_of_user_pages};
 ghost use Rattle.mm_page_tables.specs.Entries.{entry_or};
 ghost use Rattle.mm_page_tables.specs.Words.{is_valid_entry};

@@ -6,7 +6,7 @@ ghost use Rattle.mm_page_tables.specs.Words.{key_entry, has_word, own_word, with
 ghost use Rattle.mm_page_tables.specs.declared.layout.Entry.TheVariants as entry;
 ghost use Rattle.mm_types.specs.{Key, Place, first_user_page, end_of_user_pages};
 ghost use Rattle.mm_working_sets.specs.{older, IsNextFrom};
-ghost use Rattle.mm_page_tables.specs.PageStore.{pages};
+ghost use Rattle.mm_page_tables.specs.Pages.{pages};
 ghost use Rattle.std.specs.Option.{ForSome};
 ghost use Rattle.mm_page_tables.specs.Oldest.{ages_in, NoneBehind, IsOldestOf};
 ghost use Rattle.mm_page_tables.specs.Tables.{AsideBound, process_in, bound_in};

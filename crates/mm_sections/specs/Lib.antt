@@ -1,9 +1,9 @@
 pub mod Handles
-pub mod PageStore
+pub mod Pages
 pub mod Directories
 pub mod Names
 pub use Handles.{AreOpen, HandlesOf, handle_at, held, section_by_handle, section_number}
-pub use PageStore.{block_number, number_of_block, page_if, uncommitted_in}
+pub use Pages.{block_number, number_of_block, page_if, uncommitted_in}
 pub use Directories.{CountedSection, DirectoryOf, area_of, id_of, new_entry, one_handle_less}
 pub use Directories.{one_handle_more, one_view_less, one_view_more, recounted, section_in}
 pub use Directories.{section_settled, sections_of}

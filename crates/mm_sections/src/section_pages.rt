@@ -1,6 +1,6 @@
 ghost use Rattle.std.specs.Prelude.{◌≡◌, ◌==◌, ◌≤◌, ◌+◌, [], length, replicate, true, is_some, Some, None, IfOk, option_map, not, count_by};
 ghost use Rattle.mm_world.specs.{numbered, commit_shared, blank, no_area};
-ghost use Rattle.mm_sections.specs.PageStore.{number_of_block, page_if, uncommitted_in, committed_count};
+ghost use Rattle.mm_sections.specs.Pages.{number_of_block, page_if, uncommitted_in, committed_count};
 
 use mm_types::{Block, NoMemory};
 use std::alloc::Global;
@@ -16,7 +16,7 @@ pub struct SectionPages {
 impl Model for SectionPages {
     ghost use Rattle.std.specs.Prelude.{length, map, option_map, ◌<◌, ◌^◌};
     ghost use Rattle.mm_world.specs.{AreaOf};
-    ghost use Rattle.mm_sections.specs.PageStore.{block_number, page_if};
+    ghost use Rattle.mm_sections.specs.Pages.{block_number, page_if};
 
     ghost Value = { AreaOf (Unit {0}) };
 
