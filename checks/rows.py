@@ -3,7 +3,8 @@
 
 tests/rows/README.md says what the files are. Of each row: status, answers, the log or a part of it
 where it is stored; `mmlog check` takes the log, and a second run gives the same bytes. Each example
-is a row too. Then lines that are refused, with the columns of their faults; lines that are read, on
+is a row too. The stored answers are also those of checks/reference/unpaged.py, a model without
+paging, so each row is answered by a store that pages and by one that does not. Then lines that are refused, with the columns of their faults; lines that are read, on
 a machine with processes, regions and sections, with their answers; logs that no run writes; and
 generated scripts, whose lines checks/reference/bulk.py draws from the seed.
 """
@@ -14,6 +15,10 @@ import re
 import sys
 
 from common import TOP, Check, Row, begin, maybe, read, rows_of, run, table
+
+sys.path.insert(0, str(TOP / "checks/reference"))
+sys.dont_write_bytecode = True
+from unpaged import World  # noqa: E402
 
 PREPARED = "tests/rows/prepared"
 
@@ -35,6 +40,18 @@ def compare_row(check: Check, row: Row) -> None:
         check.run("mmsim", ["run"], row.script) == ended,
         "a second run gives other bytes",
     )
+
+
+def compare_unpaged(check: Check, row: Row) -> None:
+    """The stored answers with those of a model without paging, up to the end of the run."""
+    world = World()
+    lines = row.script.decode("latin-1").split("\n")[:-1]
+    for line, answer in zip(lines, row.answers.decode().splitlines()):
+        if answer.startswith(("bad line", "too long line")):
+            return
+        wanted = world.answer(line.removesuffix("\r"), answer)
+        if not check.same(f"{row.name}: `{line}` without paging", wanted, answer):
+            return
 
 
 def compare_logs(check: Check) -> None:
@@ -112,6 +129,7 @@ def main() -> int:
     check = begin(__doc__, ("mmsim", "mmlog"))
     for row in rows_of("tests/rows", "examples"):
         compare_row(check, row)
+        compare_unpaged(check, row)
     compare_logs(check)
     compare_faults(check)
     compare_lines(check)

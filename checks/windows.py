@@ -3,8 +3,8 @@
 
     python3 checks/windows.py --script NAME     prints the script of a row, to be run by hand
 
-tests/windows/README.md says what a row is. The program's answers are those of the row, and the row
-says rightly whether Windows has others, so a change of either shows. The README counts the rows of
+tests/windows/README.md says what a row is. The answers of the program, and of a model without paging,
+are those of the row, and the row says rightly whether Windows has others, so a change of either shows. The README counts the rows of
 each file. docs/WINDOWS.md names each row that differs, says how sure it is, and has both codes
 where only the code differs.
 """
@@ -17,6 +17,10 @@ import sys
 from dataclasses import dataclass, field
 
 from common import TOP, Check, begin, text
+
+sys.path.insert(0, str(TOP / "checks/reference"))
+sys.dont_write_bytecode = True
+from unpaged import World  # noqa: E402
 
 FOLDER, README, DOCUMENT = "tests/windows", "tests/windows/README.md", "docs/WINDOWS.md"
 ROW = re.compile(
@@ -85,6 +89,9 @@ def compare(check: Check, fact: Fact) -> None:
         if got != wanted
     ]
     check.holds(fact.name, not other, "; ".join(other[:2]))
+    world = World()
+    for line, answer in zip(fact.script, fact.here):
+        check.same(f"{fact.name}: `{line}` without paging", world.answer(line, answer), answer)
     is_whole = ended.status == 0 and len(said) == len(fact.script)
     check.holds(fact.name, is_whole, f"ends with status {ended.status} after {len(said)} answers")
     for at, answer in fact.windows.items():
