@@ -20,7 +20,7 @@ from typing import NamedTuple, Optional
 TOP = Path(__file__).resolve().parent.parent
 # The quick ones first.
 CHECKS = (
-    "faces rows words examples windows names hostile outside show drawn traces page documents"
+    "faces prose rows words examples windows names tries hostile outside drawn show traces page documents"
 ).split()
 # Checks of parts that need what Debian's packages or the network bring; run where they are there.
 FURTHER = "python wine web".split()

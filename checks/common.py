@@ -26,7 +26,7 @@ from typing import Iterator, NamedTuple, Optional, Sequence, Union
 TOP = Path(__file__).resolve().parent.parent
 PROGRAMS = ("mmsim", "mmlog", "mmshow", "mmnames")
 # How many complaints a check prints; the others are only counted.
-PRINTED = 20
+PRINTED = int(os.environ.get("MELZUDEK_PRINTED", "20"))
 
 Word = Union[str, bytes]
 

@@ -116,7 +116,7 @@ def compare_document(check: Check, files: dict[str, list[Fact]]) -> None:
     places = {fact.name: (file, fact) for file, facts in files.items() for fact in facts}
     named = set()
     for line in text(DOCUMENT).splitlines():
-        link = r"\[([^\]]*)\]\(\.\./(?:tests/)?windows/([^)#]+)#([^)]*)\)"
+        link = r"\[([^\]]*)\]\(\.\./tests/windows/([^)#]+)#([^)]*)\)"
         for shown, file, name in re.findall(link, line):
             if shown != name or name not in places or places[name][0] != file:
                 check.wrong(name, f"{DOCUMENT} names it `{shown}`, in {file}")
