@@ -19,9 +19,9 @@ from typing import NamedTuple, Optional
 
 TOP = Path(__file__).resolve().parent.parent
 # The quick ones first.
-CHECKS = (
-    "faces prose rows words examples windows names tries hostile outside drawn show traces page documents"
-).split()
+CHECKS = """
+faces prose rows words examples windows names tries hostile outside drawn show traces page documents
+""".split()
 # Checks of parts that need what Debian's packages or the network bring; run where they are there.
 FURTHER = "python wine web".split()
 # Checks that take their programs by place.
