@@ -1,41 +1,58 @@
 #!/usr/bin/env python3
-"""Keeps the faces of crates: checks/faces [--write] [FOLDER]
+"""Sees that crates name each other by their faces.
 
-The face of a crate is what its specs/Lib.antt and proofs/Lib.antt pass on with `pub use`: the definitions and lemmas that other crates name. Of
-another crate a file names the face alone, in a line or two (`use Rattle.mm_world.specs.{alloc, blank}`); of its own crate it names the module, but
-for a proof and a file of `src` without types, which name the specs by their face too, and a function's answers, which name the lemmas so. What stands in no face: a module
-(`use .. as NAME`), a name that means two things in its crate, and one that is the name of a module as well. These are named where they stand. So are lemmas in a file that some file of specs leads to
-(the lemmas of a law that an `impl` states): the face of a crate's proofs leads to modules that no contract may cite.
+    python3 checks/faces.py --write [--top FOLDER]     puts right what does not
 
-Prints each file that does otherwise, and ends with status 1 where there is one. With --write it puts them right, and adds to each face what is
-asked for; `rt fmt` in the changed crates comes after it. What a face has and nobody asks for stays, since taking it away would have all crates above
-proved again. FOLDER is the repository, else the one that this file stands in.
+The face of a crate is what its specs/Lib.antt and proofs/Lib.antt pass on with `pub use`: the
+definitions and lemmas that other crates name. A file names another crate's face alone, in a line or
+two (`use Rattle.mm_world.specs.{alloc, blank}`). It names the modules of its own crate, with two
+exceptions: a proof and a file of `src` without types name the specs by their face, and the answers
+of a function name the lemmas so.
+
+Some things are in no face: a module (`use .. as NAME`), a name that means two things in its crate,
+and one that is also the name of a module. These are named where they are. So are lemmas in a file
+that some file of specs leads to (the lemmas of a law that an `impl` states), because the face of a
+crate's proofs leads to modules that no contract may cite.
+
+With --write the files are put right, and each face gets what is asked for; `rt fmt` in the changed
+crates comes after it. Unused names stay in a face, because removing one would have all crates above
+proved again.
 """
+
+from __future__ import annotations
 
 import argparse
 import collections
 import os
 import re
 import sys
+from typing import Iterator, Optional, Union
 
-USE = re.compile(r"^(\s*)(ghost )?use Rattle\.(\w+)\.(specs|proofs)\.(?:([^{}\s]+)\.)?\{([^{}]*)\}(;?)\s*$")
-LEADS = re.compile(r"^(?:pub )?use Rattle\.(\w+)\.(specs|proofs)(?:\.([^{}\s]+?))?(?:\.\{([^{}]*)\}| as \w+)\s*$")
+from common import begin
+
+USE = re.compile(
+    r"^(\s*)(ghost )?use Rattle\.(\w+)\.(specs|proofs)\.(?:([^{}\s]+)\.)?\{([^{}]*)\}(;?)\s*$"
+)
+LEADS = re.compile(
+    r"^(?:pub )?use Rattle\.(\w+)\.(specs|proofs)(?:\.([^{}\s]+?))?(?:\.\{([^{}]*)\}| as \w+)\s*$"
+)
 FACE = re.compile(r"^(unfoldable )?pub use ([^{}\s]+)\.\{([^{}]*)\}\s*$")
 TYPE = re.compile(r"^\s*(?:pub(?:\([^)]*\))? )?(?:struct|enum|trait|union|type) ", re.M)
 WIDTHS = {"imports": 150, "face": 100}
 
 
-def names_in(text):
+def names_in(text: str) -> list[str]:
     """The items of a list in braces, each as it is written there."""
     return [name.strip() for name in text.split(",") if name.strip()]
 
 
-def item(name):
+def item(name: str) -> str:
     """The item that `a as b` names."""
     return name.split(" as ")[0].strip()
 
 
-def read(path):
+def read(path: str) -> str:
+    """A file, by its whole path."""
     with open(path, encoding="utf8") as file:
         return file.read()
 
@@ -43,20 +60,22 @@ def read(path):
 class Library:
     """The specs or the proofs of a crate: its modules, and the face as it stands."""
 
-    def __init__(self, root, crate, kind):
+    def __init__(self, root: str, crate: str, kind: str):
         self.crate, self.kind = crate, kind
         self.folder = os.path.join(root, "crates", crate, kind)
         self.lib = os.path.join(self.folder, "Lib.antt")
-        self.modules = {}
+        self.modules: dict[str, bool] = {}
+        self.new: dict[str, str] = {}
         self.find_modules(self.lib, [], True)
-        self.face = {}
-        self.asked = collections.defaultdict(set)
+        self.face: dict[str, str] = {}
+        self.asked: dict[str, set[str]] = collections.defaultdict(set)
         if os.path.exists(self.lib):
             for line in read(self.lib).split("\n"):
                 if found := FACE.match(line):
                     self.face.update((name, found[2]) for name in names_in(found[3]))
 
-    def find_modules(self, node, path, public):
+    def find_modules(self, node: str, path: list[str], public: bool) -> None:
+        """Notes the modules below a file, and whether other crates may see them."""
         if not os.path.exists(node):
             return
         for line in read(node).split("\n"):
@@ -66,14 +85,19 @@ class Library:
                 self.modules[".".join(inner)] = seen
                 self.find_modules(os.path.join(self.folder, *inner) + ".antt", inner, seen)
 
-    def may_pass_on(self, module):
-        """Whether the face may pass on items of a module: of a public file, or the types of `src`."""
+    def may_pass_on(self, module: str) -> bool:
+        """Whether the face may pass on items of a module: of a public file, or types of `src`."""
         if module in self.modules:
             return self.modules[module]
         last = module.split(".")[-1]
-        return self.kind == "specs" and module.startswith("declared.") and not last.startswith("The") and last != "Given"
+        return (
+            self.kind == "specs"
+            and module.startswith("declared.")
+            and not last.startswith("The")
+            and last != "Given"
+        )
 
-    def taken(self):
+    def taken(self) -> set[str]:
         """Names that no item of the face may have: those of modules."""
         taken = {module.split(".")[0] for module in self.modules} | {"declared", "contracts"}
         if self.kind == "proofs":
@@ -83,23 +107,28 @@ class Library:
                 taken.update(file[:-3] for file in files if file.endswith(".rt"))
         return taken
 
-    def settle(self):
+    def settle(self) -> None:
         """The face with what is asked for: name to module."""
         taken = self.taken()
         self.new = {n: m for n, m in self.face.items() if n not in self.asked}
-        self.new.update((n, next(iter(ms))) for n, ms in self.asked.items() if len(ms) == 1 and n not in taken)
+        for name, modules in self.asked.items():
+            if len(modules) == 1 and name not in taken:
+                self.new[name] = next(iter(modules))
 
-    def unfoldable(self, module):
+    def unfoldable(self, module: str) -> set[str]:
+        """The names of a module whose definitions may be unfolded."""
         path = os.path.join(self.folder, *module.split(".")) + ".antt"
-        return set(re.findall(r"^\s*unfoldable pub (?:data |record )?(\S+)", read(path), re.M)) if os.path.exists(path) else set()
+        if not os.path.exists(path):
+            return set()
+        return set(re.findall(r"^\s*unfoldable pub (?:data |record )?(\S+)", read(path), re.M))
 
-    def lines(self):
+    def lines(self) -> list[str]:
         """The lines of the new face, in the order of the modules, the types of `src` last."""
         order = {module: place for place, module in enumerate(self.modules)}
         by_module = collections.defaultdict(list)
         for name, module in self.new.items():
             by_module[module].append(name)
-        lines = []
+        lines: list[str] = []
         for module in sorted(by_module, key=lambda m: (m not in order, order.get(m, 0), m)):
             opened = self.unfoldable(module)
             for head, names in (
@@ -109,7 +138,7 @@ class Library:
                 lines += wrapped(f"{head} {module}.", sorted(names), WIDTHS["face"], "")
         return lines
 
-    def written(self):
+    def written(self) -> str:
         """The text of Lib.antt with the new face."""
         old = read(self.lib) if os.path.exists(self.lib) else ""
         kept = [line for line in old.split("\n") if not FACE.match(line)]
@@ -119,9 +148,10 @@ class Library:
         return "\n".join(parts) + "\n" if parts else ""
 
 
-def wrapped(head, names, width, tail):
+def wrapped(head: str, names: list[str], width: int, tail: str) -> list[str]:
     """`head{a, b, ..}tail` in lines of at most `width` columns."""
-    lines, line = [], []
+    lines: list[str] = []
+    line: list[str] = []
     for name in names:
         if line and len(head + "{" + ", ".join(line + [name]) + "}" + tail) > width:
             lines.append(head + "{" + ", ".join(line) + "}" + tail)
@@ -130,12 +160,19 @@ def wrapped(head, names, width, tail):
     return lines + [head + "{" + ", ".join(line) + "}" + tail] if line else lines
 
 
+Taken = tuple["re.Match[str]", Library, list[tuple[str, Optional[str]]]]
+Group = tuple[int, str, str]
+
+
 class Repository:
-    def __init__(self, root):
+    """All crates, and the files that do not name others by their faces."""
+
+    def __init__(self, root: str):
         self.root = root
         self.crates = sorted(os.listdir(os.path.join(root, "crates")))
-        self.libraries = {(c, k): Library(root, c, k) for c in self.crates for k in ("specs", "proofs")}
-        self.cited = set()
+        kinds = ("specs", "proofs")
+        self.libraries = {(c, k): Library(root, c, k) for c in self.crates for k in kinds}
+        self.cited: set[str] = set()
         for crate, kind, path in self.files():
             if kind == "specs":
                 self.cite(path)
@@ -145,7 +182,8 @@ class Repository:
         for library in self.libraries.values():
             library.settle()
 
-    def files(self):
+    def files(self) -> Iterator[tuple[str, str, str]]:
+        """Each source: its crate, its kind, its path."""
         for crate in self.crates:
             for kind in ("src", "specs", "proofs"):
                 for folder, _, files in os.walk(os.path.join(self.root, "crates", crate, kind)):
@@ -153,7 +191,7 @@ class Repository:
                         if file.endswith((".rt", ".antt")):
                             yield crate, kind, os.path.join(folder, file)
 
-    def cite(self, path):
+    def cite(self, path: str) -> None:
         """Notes the files that this one leads to."""
         if path in self.cited or not os.path.exists(path):
             return
@@ -161,12 +199,15 @@ class Repository:
         for line in read(path).split("\n"):
             if found := LEADS.match(line):
                 library = self.libraries.get((found[1], found[2]))
-                modules = [found[3]] if found[3] else [library.face.get(item(n)) for n in names_in(found[4] or "")] if library else []
+                if not library:
+                    continue
+                names = names_in(found[4] or "")
+                modules = [found[3]] if found[3] else [library.face.get(item(n)) for n in names]
                 for module in modules:
-                    if library and module:
+                    if module:
                         self.cite(os.path.join(library.folder, *module.split(".")) + ".antt")
 
-    def by_face(self, crate, kind, path, library):
+    def by_face(self, crate: str, kind: str, path: str, library: Library) -> bool:
         """Whether a file names that library by its face."""
         if library.kind == "proofs" and path in self.cited:
             return False
@@ -181,26 +222,32 @@ class Repository:
         module = os.path.relpath(path, library.folder)[: -len(".antt")].replace(os.sep, ".")
         return module not in library.modules and not module.endswith("Lib")
 
-    def taken_from(self, crate, kind, path, line):
-        """A `use` line that may go by a face: its match, its library, and of each name its module."""
+    def taken_from(self, crate: str, kind: str, path: str, line: str) -> Optional[Taken]:
+        """A `use` line that may go by a face: its match, its library, its names' modules."""
         found = USE.match(line)
         library = self.libraries.get((found[3], found[4])) if found else None
-        if library is None or not (self.by_face(crate, kind, path, library) or not found[5] and library.crate != crate):
+        if found is None or library is None:
+            return None
+        is_other = not found[5] and library.crate != crate
+        if not (self.by_face(crate, kind, path, library) or is_other):
             return None
         if found[5] and not library.may_pass_on(found[5]):
             return None
         pairs = [(name, found[5] or library.face.get(item(name))) for name in names_in(found[6])]
         return found, library, pairs
 
-    def ask(self, crate, kind, path, line):
+    def ask(self, crate: str, kind: str, path: str, line: str) -> None:
+        """Notes what a line names of another library."""
         if taken := self.taken_from(crate, kind, path, line):
             for name, module in taken[2]:
                 if module:
                     taken[1].asked[item(name)].add(module)
 
-    def rewritten(self, crate, kind, path):
-        """The text of a file with its imports by faces, those of one face together where the first stood."""
-        out, groups, block = [], {}, 0
+    def rewritten(self, crate: str, kind: str, path: str) -> str:
+        """The text of a file with its imports by faces, those of one face together."""
+        out: list[Union[str, Group]] = []
+        groups: dict[Group, tuple[str, str, list[str]]] = {}
+        block = 0
         for line in read(path).split("\n"):
             taken = self.taken_from(crate, kind, path, line)
             if not taken:
@@ -210,7 +257,7 @@ class Repository:
             found, library, pairs = taken
             goes = self.by_face(crate, kind, path, library)
             head = f"{found[1]}{found[2] or ''}use Rattle.{library.crate}.{library.kind}."
-            apart = collections.defaultdict(list)
+            apart: dict[Optional[str], list[str]] = collections.defaultdict(list)
             for name, module in pairs:
                 if goes and module and library.new.get(item(name)) == module:
                     group = (block if found[1] else -1, library.crate, library.kind)
@@ -222,17 +269,19 @@ class Repository:
                 else:
                     apart[module].append(name)
             for module, names in apart.items():
-                out.append(f"{head}{module + '.' if module else ''}{{{', '.join(names)}}}{found[7]}")
-        lines = []
-        for line in out:
-            if isinstance(line, tuple):
-                head, tail, names = groups[line]
-                lines += wrapped(head, names, WIDTHS["imports"], tail)
+                out.append(
+                    f"{head}{module + '.' if module else ''}{{{', '.join(names)}}}{found[7]}"
+                )
+        lines: list[str] = []
+        for place in out:
+            if isinstance(place, str):
+                lines.append(place)
             else:
-                lines.append(line)
+                head, tail, names = groups[place]
+                lines += wrapped(head, names, WIDTHS["imports"], tail)
         return "\n".join(lines)
 
-    def changes(self):
+    def changes(self) -> Iterator[tuple[str, str]]:
         """Each file that is not as it should be, with its text as it should be."""
         for crate, kind, path in self.files():
             if path not in (library.lib for library in self.libraries.values()):
@@ -245,21 +294,25 @@ class Repository:
                 yield library.lib, text
 
 
-def main():
-    parser = argparse.ArgumentParser(description=__doc__.split("\n")[0])
-    parser.add_argument("--write", action="store_true")
-    parser.add_argument("folder", nargs="?", default=os.path.join(os.path.dirname(os.path.abspath(__file__)), ".."))
-    asked = parser.parse_args()
-    count = 0
-    for path, text in list(Repository(asked.folder).changes()):
-        count += 1
-        if asked.write:
+def main() -> int:
+    parser = argparse.ArgumentParser(description=(__doc__ or "").split("\n")[0])
+    parser.add_argument("--write", action="store_true", help="put the files right")
+    parser.add_argument("--top", metavar="FOLDER", default=".", help="the repository")
+    check = begin(__doc__, (), parser)
+    root = check.words.top
+    repository = Repository(root)
+    changes = list(repository.changes())
+    check.compared = sum(1 for _ in repository.files())
+    for path, changed in changes:
+        if check.words.write:
             with open(path, "w", encoding="utf8") as file:
-                file.write(text)
+                file.write(changed)
         else:
-            print(f"{os.path.relpath(path, asked.folder)}: names another crate's module where its face would do, or is a face that lacks a name")
-    print(f"faces: {count} files {'written' if asked.write else 'to be written'}")
-    return 1 if count and not asked.write else 0
+            complaint = "names a module of another crate and not its face, or is a face without it"
+            check.wrong(os.path.relpath(path, root), complaint)
+    if check.words.write:
+        print(f"faces: {len(changes)} files written")
+    return check.end()
 
 
 if __name__ == "__main__":
