@@ -9,7 +9,6 @@ from __future__ import annotations
 import re
 import statistics
 import subprocess
-import time
 from typing import Any, Callable
 
 import show
@@ -377,7 +376,7 @@ def drawn(hands: Hands) -> None:
         "Private to process 2",
     )
     chips = hands.js("document.getElementById('state').textContent")
-    hands.has("addresses of chips", chips, "page 18 0x12000, age 0")
+    hands.has("addresses of chips", chips, "18 0x12000 age 0")
     hands.has("addresses of chips", chips, "p1.33 0x21000 slot 1")
     texts = hands.js("texts.length = 0, page.charts.draw(), texts")
     hands.note("the curve of keys", "Keys, not the charge" in texts, True)
@@ -509,20 +508,23 @@ def changed_mark(hands: Hands) -> None:
 
 
 def quick_steps(hands: Hands) -> None:
-    """A step to another line takes at most 50 ms, of which most are the browser's layout."""
+    """A step to another line takes at most 50 ms of the page's processor time, layout and all."""
     with open("examples/sort.mm", encoding="ascii") as file:
         log, files = hands.played(file.read())
     hands.page(log, files)
-    step = """(() => {
-      const began = performance.now();
-      document.querySelector('[data-press=ArrowRight]').click();
-      document.body.offsetHeight;
-      return performance.now() - began;
-    })()"""
+    hands.browser.ask("Performance.enable", timeDomain="threadTicks")
+
+    def spent() -> float:
+        metrics = hands.browser.ask("Performance.getMetrics")["metrics"]
+        return next(one["value"] for one in metrics if one["name"] == "TaskDuration")
+
     took = []
     for _ in range(9):
-        took.append(hands.js(step))
-        time.sleep(0.1)
+        began = spent()
+        hands.js("document.querySelector('[data-press=ArrowRight]').click()")
+        hands.js("document.body.offsetHeight")
+        took.append(1000 * (spent() - began))
+        hands.js(LATER)
     middle = statistics.median(took)
     hands.note("a step, of at most 50 ms", middle if middle > 50 else "quick", "quick")
 

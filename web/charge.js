@@ -36,7 +36,8 @@ function makeCharge({ data, survey, space: { spaces, charge, limit }, sections }
     const [word, pid, ...rest] = text.split(' ');
     const asked = ASKED[word]?.({ number, pid: Number(pid) }, ...rest);
     const isRight = asked > 0 && charged + asked > most;
-    return { charged, most, asked: isRight ? spelled(asked) : 'more than ' + spelled(most - charged) };
+    const more = 'more than ' + spelled(most - charged);
+    return { charged, most, asked: isRight ? spelled(asked) : more };
   }
   const refusals = data.lines.flatMap((line) => {
     const sum = refusal(line);

@@ -15,6 +15,7 @@ function makeAxis(first, last, left, right) {
   const x = (line) => left + (line - first) * column;
   const middle = (line) => x(line + 0.5);
   const has = (line) => line >= first && line <= last;
+  const inside = (place) => clamp(place, left, right);
   const isInside = (place) => place >= left && place <= right;
   const lineAt = (place) => clamp(first + Math.floor((place - left) / column), first, last);
   // The lines; where they are narrower than a pixel the pixels, each with its lines.
@@ -26,8 +27,8 @@ function makeAxis(first, last, left, right) {
       return { from: edge(at), to: edge(at + 1), first: line(at), last: line(at + 1) - 1 };
     });
   }
-  const isNarrow = left < WIDE_LEFT;
-  return { first, last, left, right, isNarrow, count, column, columns, x, middle, has, isInside, lineAt };
+  const ways = { columns, x, middle, has, inside, isInside, lineAt };
+  return { first, last, left, right, isNarrow: left < WIDE_LEFT, count, column, ...ways };
 }
 
 // The sheet that tracks are drawn on.
@@ -43,9 +44,9 @@ class Sheet {
   label(top, title, value = '') {
     const { pen, axis, heading } = this;
     const { left, right, isNarrow } = axis;
-    const align = isNarrow ? 'right' : 'left';
-    const write = (on, text) =>
-      on.text(text, isNarrow ? right : right + 8, isNarrow ? heading : top, { tint: '--soft', align });
+    const look = { tint: '--soft', align: isNarrow ? 'right' : 'left' };
+    const place = isNarrow ? [right, heading] : [right + 8, top];
+    const write = (on, text) => on.text(text, ...place, look);
     if (isNarrow) pen.text(title, left, heading);
     else pen.text(title, left - 10, top, { align: 'right' });
     if (typeof value === 'function') this.later((above) => write(above, value()));
@@ -64,9 +65,10 @@ class Sheet {
   }
   // A title of a chart of rows, whose names stand where other charts have their titles.
   side(top, high, text) {
+    const look = { align: 'center', turn: -Math.PI / 2 };
     if (this.axis.isNarrow) this.label(top, text);
     else if (high < 60) this.pen.text(text, 4, top + 8, { font: SMALL });
-    else this.pen.text(text, 14, top + Math.min(high, 400) / 2, { align: 'center', turn: -Math.PI / 2 });
+    else this.pen.text(text, 14, top + Math.min(high, 400) / 2, look);
   }
 }
 
@@ -78,7 +80,8 @@ function makeCharts(page) {
   const [frameChart, stripChart] = [makeFrameChart(page), makeStripChart(page)];
   const tracks = makeTracks(page, sheet);
   const { frameAt, paints } = frameChart;
-  const charts = { draw, mark, show, frameAt, pageAt: stripChart.pageAt, paints, axis: null, whole: null };
+  const { pageAt } = stripChart;
+  const charts = { draw, mark, show, frameAt, pageAt, paints, axis: null, whole: null };
   // for numbers at the right
   const margin = frames.length + survey.numbers.allSlots[count] < 1000 ? 84 : 126;
   const numberHeight = processes.length > 7 ? 26 : 40;
@@ -98,13 +101,12 @@ function makeCharts(page) {
   }
   function tracksNow(axis) {
     const strips = stripChart.layOut(axis);
-    const hasFaults = processes.some(({ faults }) => faults.length) && count > 8;
     return [
       axis.column < 10 ? [24, tracks.lineNumbers] : [axis.column < 20 ? 226 : 190, tracks.texts],
       ...survey.tracks.map((track) => [15, (...place) => tracks.events(track, ...place)]),
       ...strips.map(stripTrack),
       ...(space.charge ? [[96, tracks.chargeTrack]] : []),
-      ...(hasFaults ? [[76, tracks.rates]] : []),
+      ...tracks.ratesNow(),
       [frameChart.layOut(axis), drawFrames],
       [96, tracks.lists],
       ...tracks

@@ -27,10 +27,7 @@ function findStrangers({ data, survey, space }) {
     const isWanted = ({ stand: { type, state } }) => type === PRIVATE && state === COMMITTED;
     return regions.filter(isWanted).reduce((sum, { from, to }) => sum + to - from, 0);
   }
-  const isStray =
-    (line) =>
-    ({ pid, page }) =>
-      spaces[pid].standAt(page, line)?.state !== COMMITTED;
+  const isInside = ({ pid, page }, line) => spaces[pid].standAt(page, line)?.state === COMMITTED;
 
   function complaint(line) {
     const { answer, text } = lines[line];
@@ -38,10 +35,12 @@ function findStrangers({ data, survey, space }) {
     if (charge) {
       if (limit[line] !== most) return `a limit of ${limit[line]}, where it is ${most}`;
       const said = text === 'charge' && answer.startsWith('ok') && Number(answer.split(' ')[1]);
-      if (said !== false && said !== charge[line]) return `a charge of ${charge[line]}, not ${said}`;
+      const isOther = said !== false && said !== charge[line];
+      if (isOther) return `a charge of ${charge[line]}, not ${said}`;
     }
     if (!isObserved) return '';
-    if (survey.stateAfter(line).sets.flat().some(isStray(line))) return 'a valid page in no region';
+    const valid = survey.stateAfter(line).sets.flat();
+    if (!valid.every((one) => isInside(one, line))) return 'a valid page in no region';
     if (committedPrivate(line) !== numbers.privates[line]) return 'other private pages';
     const rest = charge && charge[line] - numbers.privates[line] - numbers.sections[line];
     return charge && rest !== chargedCopies(line) ? 'another charge of copies' : '';
@@ -51,7 +50,8 @@ function findStrangers({ data, survey, space }) {
   const some = Array.from({ length: MOST_COMPARED }, (_, at) => Math.ceil((count * (at + 1)) / 8));
   for (const line of new Set([...some, ...said.map(({ number }) => number)])) {
     const found = complaint(line);
-    if (found) return `The observations are not of this run: after line ${line} they have ${found}.`;
+    const where = `The observations are not of this run: after line ${line} they have `;
+    if (found) return where + found + '.';
   }
   return '';
 }

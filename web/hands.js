@@ -157,8 +157,9 @@ function attachPointer({ data, survey, view, charts, pages, regions }, hands) {
     if (spot) return `${said}. ${spotText(spot, number)}`;
     if (!frame) return [said, ...eventsIn(survey, number, number)].join('. ');
     const { state, owner, isChanged } = frame.after(number);
-    const page = owner ? `, ${owner.name}${addressBehind(owner)}${isChanged ? ', changed' : ''}` : '';
-    return `${said}. Frame ${frame.name}: ${STATES[state]}${page}`;
+    const page = owner && owner.name + addressBehind(owner);
+    const words = [STATES[state], page, owner && isChanged && 'changed'];
+    return `${said}. Frame ${frame.name}: ${words.filter(Boolean).join(', ')}`;
   }
   plot.addEventListener('pointermove', ({ offsetX, offsetY, clientX, clientY }) => {
     tip.hidden = !charts.axis.isInside(offsetX);

@@ -78,7 +78,8 @@ function makePages({ data, space: { spaces, stands }, sections: { useOf, useAt }
     const { lines, codes } = lifeOf(space, page);
     let at = Math.max(0, firstAt(lines, (line) => line > first) - 1);
     for (; lines[at] <= last; at++) {
-      const [from, to] = [Math.max(first, lines[at]), Math.min(last + 1, lines[at + 1] ?? Infinity)];
+      const from = Math.max(first, lines[at]);
+      const to = Math.min(last + 1, lines[at + 1] ?? Infinity);
       if (codes[at] >= 0 && to > from) each(codes[at], from, to);
     }
   }

@@ -11,13 +11,14 @@ const button = (kind, id, text, look = 'reference') =>
   `<button class="${look}" data-${kind}="${id}">${text}</button>`;
 // The address of a page or a place of one process, behind its name.
 const addressBehind = ({ pid, page }) => (pid && page < 2 ** 20 ? ' ' + addressOf(page) : '');
+const withAddress = (thing) => thing.name + addressBehind(thing);
 function reference(kind, thing, text = thing.name) {
   const name = kind === 'place' ? text : button(kind, thing.id, text);
   return name + (thing.pid ? quiet(addressBehind(thing)) : '');
 }
 const chip = (state, kind, thing, text) => button(kind, thing.id, dot(state) + text, 'chip');
 const frameChip = ({ frame, owner, state }, more = '') =>
-  chip(state, 'frame', frame, [frame.name, owner && owner.name + addressBehind(owner), more].join(' '));
+  chip(state, 'frame', frame, [frame.name, owner && withAddress(owner), more].join(' '));
 // What is made of the first of a list, and how many more there are.
 function firstOf(list, most, make) {
   const more = list.length - most;
@@ -87,9 +88,11 @@ function makePanels({ data, survey, waits, view, regions, charge, shown }) {
   }
   function turnOf(frame, moves) {
     const events = moves.filter(({ class: { group } }) => group in survey.numbers);
-    const told = (events.length ? events : moves.slice(-1)).map((move) => sentenceOf(move, reference));
+    const some = events.length ? events : moves.slice(-1);
+    const told = some.map((move) => sentenceOf(move, reference));
     const [was, is] = [frame.after(view.line - 1), moves.at(-1)];
-    const stand = ({ state, owner }) => dot(state) + STATES[state] + (owner ? ' ' + owner.name : '');
+    const stand = ({ state, owner }) =>
+      `${dot(state)}${STATES[state]} ${owner ? withAddress(owner) : ''}`.trimEnd();
     const isSame = was.state === is.state && was.owner === is.owner;
     const turn = isSame ? stand(is) + ', as before' : `${stand(was)} &rarr; ${stand(is)}`;
     return `${told.join('; ')}<span class="turn">frame ${frame.name}: ${turn}</span>`;
@@ -123,9 +126,9 @@ function makePanels({ data, survey, waits, view, regions, charge, shown }) {
     ]);
   }
   function setsOf({ sets }) {
-    const age = data.hasAges ? ({ age }) => `, age ${age}` : () => '';
+    const age = data.hasAges ? ({ age }) => ` age ${age}` : () => '';
     const make = (one) =>
-      chip(ACTIVE, 'frame', one.frame, `page ${one.page}${addressBehind(one)}${age(one)}`);
+      chip(ACTIVE, 'frame', one.frame, one.page + addressBehind(one) + age(one));
     const live = data.processes.filter(({ line }) => line <= view.line);
     const some = live.filter(({ pid }) => shown().includes(pid));
     const rows = some.map(({ pid, min, max }) => {
@@ -141,12 +144,13 @@ function makePanels({ data, survey, waits, view, regions, charge, shown }) {
   function agesIn(set) {
     if (!data.hasAges || !set.length) return '';
     const ages = [...Map.groupBy(set, ({ age }) => age)].reverse();
-    return quiet('; ages ' + ages.map(([age, { length }]) => `${age}: ${spelled(length)}`).join(', '));
+    const counts = ages.map(([age, some]) => `${spelled(some.length)} of age ${age}`);
+    return quiet('; ' + counts.join(', '));
   }
   function homesOf({ away, slots, allSlots }) {
     const row = (title, state, isHome, note) => {
       const make = ({ page, home }) =>
-        chip(state, 'page', page, `${page.name}${addressBehind(page)} ${home}`);
+        chip(state, 'page', page, `${withAddress(page)} ${home}`);
       return definition(title, away.filter(({ home }) => isHome(home)), make, note);
     };
     const inUse = quiet(`${spelled(allSlots - slots)} of ${spelled(allSlots)} slots in use`);
@@ -159,20 +163,21 @@ function makePanels({ data, survey, waits, view, regions, charge, shown }) {
 
   // ---- a history: a line's moves together, with the state after them
   function historyOf({ kind, thing }) {
-    const { moves, name } = thing;
+    const { moves } = thing;
     // the part of it that is near the chosen line
     const first = Math.max(0, thing.countUpTo(view.line - 1) - MOST_OF_HISTORY / 2);
     const part = moves.slice(first, first + MOST_OF_HISTORY);
     const near = part.length < moves.length ? '; those near this line' : '';
+    const inWords = (kind, it, text) => text + addressBehind(it);
     const row = ([line, some]) => [
       button('line', line, line),
       some.at(-1).frame ? dot(some.at(-1).state) : '',
       (line === view.line ? '<span class="chosen"></span>' : '') +
-        some.map((move) => sentenceOf(move)).join('; '),
+        some.map((move) => sentenceOf(move, inWords)).join('; '),
     ];
     const rows = [...Map.groupBy(part, ({ line }) => line)].map(row);
     return (
-      `<h2><span>History of ${kind} ${name}${addressBehind(thing)}</span>` +
+      `<h2><span>History of ${kind} ${withAddress(thing)}</span>` +
       '<button data-press="Escape">Close</button></h2>' +
       `<p class="quiet">${spelled(moves.length)} moves${near}</p>` +
       `<div class="rows">${table([], rows)}</div>`

@@ -78,7 +78,7 @@ function makeRegions({ space: { spaces, isObserved }, sections: { useOf }, pages
     const { from, to, stand, counts, runs } = allocation;
     const first = isObserved ? protectionIn(stand.first) : '';
     const row = (run, address, type) => [
-      `<code>${addressOf(run.from)}</code>`,
+      `<code class="${type ? '' : 'inner'}">${addressOf(address)}</code>`,
       ...[sizeOf(run.to - run.from), type, wordsOfStand(run.stand)],
       ...[...numbersOf(run.counts), pagesOf(pid, run, line)],
     ];
@@ -89,7 +89,7 @@ function makeRegions({ space: { spaces, isObserved }, sections: { useOf }, pages
     const some = quiet(`${runs.length} runs`);
     const sum = [...numbersOf(counts), isShort ? barOf(counts) : ''];
     const head = [`<code>${addressOf(from)}</code>`, sizeOf(to - from), type, some, ...sum];
-    const inner = (run) => row(run, from, '').with(0, quiet(`<code>${addressOf(run.from)}</code>`));
+    const inner = (run) => row(run, run.from, '');
     return [head, ...(isShort ? [] : runs.map(inner))];
   }
   function spaceOf(pid, line) {
@@ -114,7 +114,8 @@ function makeRegions({ space: { spaces, isObserved }, sections: { useOf }, pages
     const some = KINDS_SHOWN.filter((kind) => counts[kind]);
     const parts = some.map((kind) => `${spelled(counts[kind])} ${PAGE_KINDS[kind]}`);
     const reserved = counts[IS_RESERVED] ? `, ${sizeOf(counts[IS_RESERVED])} reserved` : '';
-    return `${sizeOf(committed)} committed${reserved}; pages: ${parts.join(', ') || 'none'}`;
+    const what = isObserved ? 'committed' : 'that the log knows';
+    return `${sizeOf(committed)} ${what}${reserved}; pages: ${parts.join(', ') || 'none'}`;
   }
   function show(line) {
     const tables = shown().map((pid) => spaceOf(pid, line));

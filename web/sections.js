@@ -41,7 +41,8 @@ function readSections({ lines }) {
     stack: ([thread, pid], [, base, size], line) =>
       begin(pid, base, line, { thread: Number(thread), pages: pagesIn(Number(size)) }),
     unmap: ([pid, address], answer, line) => end(pid, address, line),
-    free: ([pid, address, , type], answer, line) => Number(type) === 0x8000 && end(pid, address, line),
+    free: ([pid, address, , type], answer, line) =>
+      Number(type) === 0x8000 && end(pid, address, line),
     exit: ([pid], answer, line) => end(pid, undefined, line),
   };
   for (const { number, text, answer } of lines) {

@@ -15,20 +15,19 @@ const ROW_HEIGHTS = [
 const PAGE_PAINTS = {
   pages: {
     tints: '--back --reserved --state-5 --untouched --state-2 --state-4'.split(' '),
-    words: (
-      ',Reserved,On disk: hard fault,Not touched: demand-zero,In memory: soft fault,' + 'Valid'
-    ).split(','),
+    words: ['', 'Reserved', 'On disk: hard fault', 'Not touched: demand-zero'].concat([
+      'In memory: soft fault',
+      'Valid',
+    ]),
     of: ({ kind }) => kind,
   },
   protection: {
-    tints: (
-      '--back --reserved --grey --state-2 --state-4 --yellow --blue --state-6 ' + '--untouched'
-    ).split(' '),
-    words: ',Reserved,No access,Read,Read/write,Write copy,Execute,Execute and write,'.split(','),
+    tints: '--back --reserved --grey --state-2 --state-4 --yellow --blue --state-6'.split(' '),
+    words: ',Reserved,No access,Read,Read/write,Write copy,Execute,Execute and write'.split(','),
     of({ kind, stand: { protection } }) {
       if (kind === IS_RESERVED) return 1;
-      const at = [0, 1, 2, 4, 8, 0x10, 0x20, 0x40, 0x80].indexOf(protection & 0xff);
-      return [8, 2, 3, 4, 5, 6, 6, 7, 5][Math.max(0, at)];
+      const at = [1, 2, 4, 8, 0x10, 0x20, 0x40, 0x80].indexOf(protection & 0xff);
+      return [2, 3, 4, 5, 6, 6, 7, 5][at] ?? 0;
     },
   },
 };
@@ -207,7 +206,8 @@ function makeStripChart({ view, space: { spaces, isObserved }, sections, pages, 
   // The process and page whose row is at a height of all charts, if one is.
   function pageAt(y) {
     const strip = strips.find(({ top, high }) => y >= top && y < top + high);
-    const row = strip?.rows.find(({ top, high }) => y >= strip.top + top && y < strip.top + top + high);
+    const from = y - strip?.top;
+    const row = strip?.rows.find(({ top, high }) => from >= top && from < top + high);
     return row ? { pid: strip.pid, page: row.from, to: row.to } : null;
   }
   // The rows of the page whose history is shown.
@@ -228,8 +228,9 @@ function makeStripChart({ view, space: { spaces, isObserved }, sections, pages, 
       text && (isObserved || at > 1)
         ? `<li><i style="background: var(${tints[at]})"></i>${text}`
         : '';
-    const guard = '<li><i class="guard"></i>Guard page<li><i class="underline"></i>\u25c6 Copied page';
-    return words.map(item).join('') + (isObserved ? guard : '');
+    const guard = '<li><i class="guard"></i>Guard page';
+    const copied = '<li><i class="underline"></i>\u25c6 Copied page';
+    return words.map(item).join('') + (isObserved ? guard + copied : '');
   }
   return { layOut, draw, pageAt, mark, legend, titleOf: ({ pid }) => `Process ${pid}` };
 }

@@ -20,7 +20,7 @@ function makeTables({ data, view, sections: { sections, viewsOf }, pages: { keyK
   }
   function sectionsOf() {
     const live = sections.filter(({ line }) => line <= view.line);
-    const heads = ['Section', 'Pages', 'Views', ...KINDS_SHOWN.map((kind) => capital(PAGE_KINDS[kind]))];
+    const kinds = KINDS_SHOWN.map((kind) => capital(PAGE_KINDS[kind]));
     const rows = firstOf(live, MOST_SECTIONS, (one) => {
       const found = pagesOf(one);
       const counts = PAGE_KINDS.map((_, kind) => found.filter((page) => page.kind === kind).length);
@@ -33,7 +33,8 @@ function makeTables({ data, view, sections: { sections, viewsOf }, pages: { keyK
       const shown = `<span class="cells">${cells}</span>`;
       return [name, one.pages, places || quiet('none'), ...numbersOf(counts), shown];
     });
-    return rows.length ? title('Sections') + table([...heads, 'Frames'], rows) : '';
+    const heads = ['Section', 'Pages', 'Views', ...kinds, 'Frames'];
+    return rows.length ? title('Sections') + table(heads, rows) : '';
   }
   function cellOf({ key, kind }) {
     const moment = key?.after(view.line);
@@ -41,13 +42,15 @@ function makeTables({ data, view, sections: { sections, viewsOf }, pages: { keyK
     const target = key ? `data-page="${key.id}"` : 'disabled';
     const text = `${key?.name ?? 'no key'}: ${PAGE_KINDS[kind]}, ${where}`;
     const look = `class="cell named" style="${tintOfKind(kind)}" title="${text}"`;
-    return `<button ${look} tabindex="-1" ${target}>${moment?.owner ? moment.frame.name : ''}</button>`;
+    const name = moment?.owner ? moment.frame.name : '';
+    return `<button ${look} tabindex="-1" ${target}>${name}</button>`;
   }
 
   // ---- slots of the paging file, and what they hold
   function slotsOf({ frames, away, allSlots, slots }) {
     const held = new Map();
-    const hold = (home, page, kind) => isSlot(home) && held.set(Number(home.slice(5)), { page, kind });
+    const hold = (home, page, kind) =>
+      isSlot(home) && held.set(Number(home.slice(5)), { page, kind });
     for (const { home, page } of away) hold(home, page, 'on disk alone');
     for (const { backing, owner, request, frame } of frames) {
       const isWritten = request === WRITE || request === WRITE_AGAIN;
@@ -56,9 +59,10 @@ function makeTables({ data, view, sections: { sections, viewsOf }, pages: { keyK
     if (!allSlots) return '';
     const all = [...held.keys()].sort((a, b) => a - b);
     const isAll = allSlots <= MOST_SLOTS;
-    const shown = isAll ? Array.from({ length: allSlots }, (_, slot) => slot) : all.slice(0, MOST_SLOTS);
+    const every = isAll ? Array.from({ length: allSlots }, (_, slot) => slot) : all;
     const some = isAll || all.length <= MOST_SLOTS ? '' : `, the first ${MOST_SLOTS} of them here`;
     const sum = `${spelled(allSlots - slots)} of ${spelled(allSlots)} slots in use${some}`;
+    const shown = every.slice(0, MOST_SLOTS);
     const cells = shown.map((slot) => slotCell(slot, held.get(slot))).join('');
     return `${title('Paging file')}<p class="quiet">${sum}</p><div class="cells">${cells}</div>`;
   }
@@ -66,7 +70,7 @@ function makeTables({ data, view, sections: { sections, viewsOf }, pages: { keyK
   function slotCell(slot, holds) {
     const { page, kind } = holds ?? {};
     const tint = holds ? SLOT_TINTS[kind] ?? STANDBY : ZEROED;
-    const name = page ? page.name + addressBehind(page) : 'a page that was deleted';
+    const name = page ? withAddress(page) : 'a page that was deleted';
     const text = `slot ${slot}: ${holds ? `${name}, ${kind}` : 'free'}`;
     const target = page ? `data-page="${page.id}"` : 'disabled';
     const look = `class="cell" style="background: var(${tintOf(tint)})" title="${text}"`;

@@ -90,44 +90,54 @@ function makeTracks(page, sheet) {
   }
   const countIn = (lines, from, to) =>
     firstAt(lines, (line) => line >= to) - firstAt(lines, (line) => line >= from);
-  function rates(top, high) {
+  // What is stacked: the processes that are shown and the others together, as {word, tint, all}.
+  function faultLayers() {
+    const some = processes.filter(({ faults }) => faults.length);
+    const isShown = ({ pid }) => shown().includes(pid);
+    const rest = some.filter((one) => !isShown(one)).flatMap(({ faults }) => faults);
+    const layers = some.filter(isShown).map(({ pid, faults }) => {
+      return { word: 'process ' + pid, tint: tintOfProcess(pid), all: faults };
+    });
+    rest.sort((a, b) => a - b);
+    return rest.length ? [...layers, { word: 'others', tint: '--grey', all: rest }] : layers;
+  }
+  function ratesNow() {
+    const layers = faultLayers();
+    const height = Math.max(76, 50 + 14 * layers.length);
+    return layers.length ? [[height, (...place) => rates(layers, ...place)]] : [];
+  }
+  function rates(layers, top, high) {
     const { axis, pen } = sheet;
     const { size, starts } = windows(axis);
-    const some = processes.filter(({ faults }) => faults.length);
-    const counts = (name) =>
-      starts.map((from) => some.map((one) => countIn(one[name], from, from + size)));
-    const [all, hard] = [counts('faults'), counts('hard')];
-    const sumOf = (parts) => parts.reduce((sum, part) => sum + part, 0);
-    const most = Math.max(1, mostOf(all.map(sumOf)));
-    const [bottom, unit] = [top + high - 2, (high - 12) / most];
+    const countsIn = (lines) => starts.map((from) => countIn(lines, from, from + size));
+    const hard = countsIn(processes.flatMap((one) => one.hard).sort((a, b) => a - b));
+    const counts = layers.map(({ all }) => countsIn(all));
+    const most = mostOf(starts.map((_, at) => counts.reduce((sum, some) => sum + some[at], 0)));
+    const [bottom, unit] = [top + high - 2, (high - 12) / Math.max(1, most)];
     const edge = [];
     starts.forEach((from, at) => {
-      const [left, right] = [from, from + size].map((line) =>
-        clamp(axis.x(line), axis.left, axis.right),
-      );
+      const [left, right] = [axis.x(from), axis.x(from + size)].map(axis.inside);
       let level = bottom;
-      all[at].forEach((part, which) => {
-        level -= part * unit;
-        const tint = tintOfProcess(some[which].pid);
-        pen.box(tint, left, level, Math.max(1, right - left - 1), part * unit, 0.75);
+      layers.forEach(({ tint }, which) => {
+        const tall = counts[which][at] * unit;
+        level -= tall;
+        pen.box(tint, left, level, Math.max(1, right - left - 1), tall, 0.75);
       });
-      const line = bottom - sumOf(hard[at]) * unit;
-      edge.push(left, line, right, line);
+      edge.push(left, bottom - hard[at] * unit, right, bottom - hard[at] * unit);
     });
     sheet.rule(bottom);
     sheet.rule(bottom - most * unit, '--rule', DOTTED);
     pen.path('--state-5', edge, 2);
-    const per = RATE_UNITS.findLast((one) => one <= Math.max(1, size)) ?? 1;
+    rateLabels(layers, most, size, top, bottom);
+  }
+  function rateLabels(layers, most, size, top, bottom) {
+    const per = RATE_UNITS.findLast((one) => one <= size);
     const rate = spelled(Math.round((10 * most * per) / size) / 10);
-    const lines = per === 1 ? 'a line' : `in ${spelled(per)} lines`;
-    sheet.label(top + 13, 'Faults ' + lines, rate);
-    if (axis.isNarrow) return;
+    sheet.label(top + 13, `Faults ${per === 1 ? 'a line' : `in ${spelled(per)} lines`}`, rate);
+    if (sheet.axis.isNarrow) return;
     sheet.label(bottom - 5, '', 0);
-    const names = some.length > 1 ? some.slice(0, 6).map(({ pid }) => pid) : [];
-    const words = [['hard', '--state-5'], ...names.map((pid) => ['process ' + pid, tintOfProcess(pid)])];
-    words.slice(0, Math.floor((high - 20) / 14)).forEach(([word, tint], at) => {
-      sheet.key(top + 28 + 14 * at, word, tint);
-    });
+    const keys = [{ word: 'of them hard', tint: '--state-5' }, ...layers];
+    keys.forEach(({ word, tint }, at) => sheet.key(top + 29 + 14 * at, word, tint));
   }
 
   // ---- the lengths of the lists, one above the other
@@ -215,8 +225,8 @@ function makeTracks(page, sheet) {
   // What is charted: the title, the colour, the values, the value at the top, the most after a
   // line; of some the least, dots, and ages.
   function setNumber({ pid, min, max, sizes }, largest) {
-    const top = clamp(max, largest, 2 * largest);
-    return { title: 'Working set ' + pid, tint: '--state-4', values: sizes, top, most: () => max, least: min };
+    const limits = { top: clamp(max, largest, 2 * largest), most: () => max, least: min };
+    return { title: 'Working set ' + pid, tint: '--state-4', values: sizes, ...limits };
   }
   function otherNumbers() {
     const { allSlots, slots, requests, committed } = numbers;
@@ -224,12 +234,12 @@ function makeTracks(page, sheet) {
     // twice the depth and two page frames are never committed
     const limit = (line) => machine.frames + allSlots[line] - 2 * machine.depth - 2;
     const { depth } = machine;
+    const top = Math.max(1, limit(count));
+    const keys = ['Keys, not the charge', '--accent', committed, top, limit, charges];
     return [
       ['Paging-file slots', '--state-2', inUse, allSlots[count], (line) => allSlots[line]],
       ['Requests in flight', '--state-5', requests, depth, () => depth],
-      ...(space.charge
-        ? []
-        : [['Keys, not the charge', '--accent', committed, Math.max(1, limit(count)), limit, charges]]),
+      ...(space.charge ? [] : [keys]),
     ]
       .map(([title, tint, values, top, most, dots]) => ({ title, tint, values, top, most, dots }))
       .filter(({ top }) => top);
@@ -275,5 +285,6 @@ function makeTracks(page, sheet) {
     });
     return [...sets, ...others];
   }
-  return { texts, lineNumbers, events, rates, lists, stack, chargeTrack, numberTrack, numbersNow };
+  const kinds = { texts, lineNumbers, events, lists, stack, chargeTrack, numberTrack };
+  return { ...kinds, ratesNow, numbersNow };
 }

@@ -65,6 +65,8 @@ function agesOf({ places, lines, count }, { pid, aged }) {
       for (let one = 1; one < used.length; one++) rest(used[one - 1], used[one]);
     });
   }
-  for (const some of numbers) for (let line = 1; line <= count; line++) some[line] += some[line - 1];
+  for (const some of numbers) {
+    for (let line = 1; line <= count; line++) some[line] += some[line - 1];
+  }
   return numbers;
 }

@@ -96,6 +96,7 @@ background-image: repeating-linear-gradient(45deg, #0000 0 3px, var(--guard) 3px
 #spaces :is(th, td):is(:nth-child(2), :nth-child(n + 5):nth-child(-n + 8)) { text-align: right; }\n\
 #sections :is(th, td):is(:nth-child(2), :nth-child(n + 4):nth-child(-n + 7)) { text-align: right; }\n\
 #spaces :is(th, td):last-child, #sections :is(th, td):last-child { padding-left: 8px; }\n\
+#spaces .inner { padding-left: 12px; color: var(--soft); }\n\
 #spaces h3 { color: var(--ink); }\n\
 #spaces td:not(:nth-child(3)) { white-space: nowrap; }\n\
 #spaces, #sections, #slots, #frames, #faults { content-visibility: auto; }\n\
@@ -111,7 +112,7 @@ i:not(.underline) { border: 1px solid var(--soft); }\n\
 .reference { background: none; color: var(--accent); }\n\
 .chips { gap: 3px; }\n\
 .chip { padding: 0 6px; border-radius: 3px; }\n\
-dl { display: grid; grid-template-columns: 148px 1fr; gap: 3px 12px; }\n\
+dl { display: grid; grid-template-columns: 116px 1fr; gap: 3px 10px; }\n\
 dt b { float: right; }\n\
 table { min-width: 70%; border-collapse: collapse; }\n\
 th, td { padding: 2px 8px 2px 0; text-align: left; }\n\
@@ -142,7 +143,7 @@ main, #side, .rows { display: block; max-height: none; }\n\
 <label>Process <select id=\"space\"></select></label>\n\
 <label>Addresses by <select id=\"tint\"></select></label>\n\
 <label>Frames by <select id=\"paint\"></select></label>\n\
-<input id=\"find\" type=\"search\" placeholder=\"1:0x10000, text\" aria-label=\"Find a page, a line\" />\n\
+<input id=\"find\" type=\"search\" placeholder=\"1:0x10000, text\" aria-label=\"Find\" />\n\
 <span class=\"quiet\">Zoom</span>\n\
 <button data-press=\"-\" title=\"Zoom out (minus)\" aria-label=\"Zoom out\">&minus;</button>\n\
 <button data-press=\"+\" title=\"Zoom in (plus)\" aria-label=\"Zoom in\">+</button>\n\
@@ -180,10 +181,12 @@ main, #side, .rows { display: block; max-height: none; }\n\
 <li><b>Replaced</b> a page leaves a working set that is at its maximum</li>\n\
 <li><b>Transition</b> valid nowhere, but a device request holds the frame</li>\n\
 <li><b>Dashed, dotted</b> the most that there can be; the least of a working set</li>\n\
-<li><b>Commit charge</b> private pages, page-file sections, copy views; &#10007; refused (1455)</li>\n\
-<li><b>Live keys</b> where no charge was observed: page-file pages that have a key</li>\n\
-<li><b>In memory</b> not valid at this address: on a list, in transition, or valid elsewhere</li>\n\
-<li><b>R W X C</b> protections: read, write, execute, copy on write; &#9670; a page copied</li>\n\
+<li><b>Shades of a working set</b> ages 0, 1, 2 to 3, 4 to 7: the darkest is 0</li>\n\
+<li><b>Commit charge</b> private pages, page-file sections, copy views</li>\n\
+<li><b>&#10007; 48 + 7 &gt; 54</b> refused (1455): charged, asked for, the limit</li>\n\
+<li><b>Keys</b> page-file pages that have one; a dot is what a charge line answered</li>\n\
+<li><b>In memory</b> not valid here: on a list, in transition, or valid elsewhere</li>\n\
+<li><b>R W X C</b> protections: read, write, execute, copy on write</li>\n\
 <li><b>Dotted row</b> a run of pages reserved or never touched, folded</li>\n\
 <li><b>Changed</b> written to since its bytes were last the same on the device</li>\n\
 </ul>\n\
@@ -452,7 +455,9 @@ const used = [line, ...uses.slice(first, firstAt(uses, (use) => use >= end)), en
 for (let one = 1; one < used.length; one++) rest(used[one - 1], used[one]);\n\
 });\n\
 }\n\
-for (const some of numbers) for (let line = 1; line <= count; line++) some[line] += some[line - 1];\n\
+for (const some of numbers) {\n\
+for (let line = 1; line <= count; line++) some[line] += some[line - 1];\n\
+}\n\
 return numbers;\n\
 }\n\
 const STATES = ['zeroed', 'free', 'standby', 'modified', 'active', 'being read', 'being written'];\n\
@@ -693,7 +698,9 @@ const PROTECTION = readNames(\n\
 '20=PAGE_EXECUTE_READ 40=PAGE_EXECUTE_READWRITE 80=PAGE_EXECUTE_WRITECOPY 100=PAGE_GUARD',\n\
 );\n\
 const SECTION = [...PROTECTION, ...readNames('4000000=SEC_RESERVE 8000000=SEC_COMMIT')];\n\
-const VIEW = readNames('1=FILE_MAP_COPY 2=FILE_MAP_WRITE 4=FILE_MAP_READ F001F=FILE_MAP_ALL_ACCESS');\n\
+const VIEW = readNames(\n\
+'1=FILE_MAP_COPY 2=FILE_MAP_WRITE 4=FILE_MAP_READ F001F=FILE_MAP_ALL_ACCESS',\n\
+);\n\
 const STATE = readNames('1000=MEM_COMMIT 2000=MEM_RESERVE 10000=MEM_FREE');\n\
 const TYPE = readNames('20000=MEM_PRIVATE 40000=MEM_MAPPED');\n\
 const CODES = readNames(\n\
@@ -902,7 +909,8 @@ map: view,\n\
 stack: ([thread, pid], [, base, size], line) =>\n\
 begin(pid, base, line, { thread: Number(thread), pages: pagesIn(Number(size)) }),\n\
 unmap: ([pid, address], answer, line) => end(pid, address, line),\n\
-free: ([pid, address, , type], answer, line) => Number(type) === 0x8000 && end(pid, address, line),\n\
+free: ([pid, address, , type], answer, line) =>\n\
+Number(type) === 0x8000 && end(pid, address, line),\n\
 exit: ([pid], answer, line) => end(pid, undefined, line),\n\
 };\n\
 for (const { number, text, answer } of lines) {\n\
@@ -994,7 +1002,8 @@ function eachStretch(space, page, { first, last }, each) {\n\
 const { lines, codes } = lifeOf(space, page);\n\
 let at = Math.max(0, firstAt(lines, (line) => line > first) - 1);\n\
 for (; lines[at] <= last; at++) {\n\
-const [from, to] = [Math.max(first, lines[at]), Math.min(last + 1, lines[at + 1] ?? Infinity)];\n\
+const from = Math.max(first, lines[at]);\n\
+const to = Math.min(last + 1, lines[at + 1] ?? Infinity);\n\
 if (codes[at] >= 0 && to > from) each(codes[at], from, to);\n\
 }\n\
 }\n\
@@ -1056,20 +1065,19 @@ const regions = spaces.filter(Boolean).flatMap((one) => one.after(line));\n\
 const isWanted = ({ stand: { type, state } }) => type === PRIVATE && state === COMMITTED;\n\
 return regions.filter(isWanted).reduce((sum, { from, to }) => sum + to - from, 0);\n\
 }\n\
-const isStray =\n\
-(line) =>\n\
-({ pid, page }) =>\n\
-spaces[pid].standAt(page, line)?.state !== COMMITTED;\n\
+const isInside = ({ pid, page }, line) => spaces[pid].standAt(page, line)?.state === COMMITTED;\n\
 function complaint(line) {\n\
 const { answer, text } = lines[line];\n\
 const most = machine.frames + numbers.allSlots[line] - 2 * machine.depth - 2;\n\
 if (charge) {\n\
 if (limit[line] !== most) return `a limit of ${limit[line]}, where it is ${most}`;\n\
 const said = text === 'charge' && answer.startsWith('ok') && Number(answer.split(' ')[1]);\n\
-if (said !== false && said !== charge[line]) return `a charge of ${charge[line]}, not ${said}`;\n\
+const isOther = said !== false && said !== charge[line];\n\
+if (isOther) return `a charge of ${charge[line]}, not ${said}`;\n\
 }\n\
 if (!isObserved) return '';\n\
-if (survey.stateAfter(line).sets.flat().some(isStray(line))) return 'a valid page in no region';\n\
+const valid = survey.stateAfter(line).sets.flat();\n\
+if (!valid.every((one) => isInside(one, line))) return 'a valid page in no region';\n\
 if (committedPrivate(line) !== numbers.privates[line]) return 'other private pages';\n\
 const rest = charge && charge[line] - numbers.privates[line] - numbers.sections[line];\n\
 return charge && rest !== chargedCopies(line) ? 'another charge of copies' : '';\n\
@@ -1079,7 +1087,8 @@ const said = lines.filter(({ text }) => text === 'charge').slice(0, MOST_COMPARE
 const some = Array.from({ length: MOST_COMPARED }, (_, at) => Math.ceil((count * (at + 1)) / 8));\n\
 for (const line of new Set([...some, ...said.map(({ number }) => number)])) {\n\
 const found = complaint(line);\n\
-if (found) return `The observations are not of this run: after line ${line} they have ${found}.`;\n\
+const where = `The observations are not of this run: after line ${line} they have `;\n\
+if (found) return where + found + '.';\n\
 }\n\
 return '';\n\
 }\n\
@@ -1116,7 +1125,8 @@ const [charged, most] = [charge[number - 1], limit[number - 1]];\n\
 const [word, pid, ...rest] = text.split(' ');\n\
 const asked = ASKED[word]?.({ number, pid: Number(pid) }, ...rest);\n\
 const isRight = asked > 0 && charged + asked > most;\n\
-return { charged, most, asked: isRight ? spelled(asked) : 'more than ' + spelled(most - charged) };\n\
+const more = 'more than ' + spelled(most - charged);\n\
+return { charged, most, asked: isRight ? spelled(asked) : more };\n\
 }\n\
 const refusals = data.lines.flatMap((line) => {\n\
 const sum = refusal(line);\n\
@@ -1389,20 +1399,19 @@ const ROW_HEIGHTS = [\n\
 const PAGE_PAINTS = {\n\
 pages: {\n\
 tints: '--back --reserved --state-5 --untouched --state-2 --state-4'.split(' '),\n\
-words: (\n\
-',Reserved,On disk: hard fault,Not touched: demand-zero,In memory: soft fault,' + 'Valid'\n\
-).split(','),\n\
+words: ['', 'Reserved', 'On disk: hard fault', 'Not touched: demand-zero'].concat([\n\
+'In memory: soft fault',\n\
+'Valid',\n\
+]),\n\
 of: ({ kind }) => kind,\n\
 },\n\
 protection: {\n\
-tints: (\n\
-'--back --reserved --grey --state-2 --state-4 --yellow --blue --state-6 ' + '--untouched'\n\
-).split(' '),\n\
-words: ',Reserved,No access,Read,Read/write,Write copy,Execute,Execute and write,'.split(','),\n\
+tints: '--back --reserved --grey --state-2 --state-4 --yellow --blue --state-6'.split(' '),\n\
+words: ',Reserved,No access,Read,Read/write,Write copy,Execute,Execute and write'.split(','),\n\
 of({ kind, stand: { protection } }) {\n\
 if (kind === IS_RESERVED) return 1;\n\
-const at = [0, 1, 2, 4, 8, 0x10, 0x20, 0x40, 0x80].indexOf(protection & 0xff);\n\
-return [8, 2, 3, 4, 5, 6, 6, 7, 5][Math.max(0, at)];\n\
+const at = [1, 2, 4, 8, 0x10, 0x20, 0x40, 0x80].indexOf(protection & 0xff);\n\
+return [2, 3, 4, 5, 6, 6, 7, 5][at] ?? 0;\n\
 },\n\
 },\n\
 };\n\
@@ -1563,7 +1572,8 @@ weigh(of(pages.decode(code)), from, to),\n\
 }\n\
 function pageAt(y) {\n\
 const strip = strips.find(({ top, high }) => y >= top && y < top + high);\n\
-const row = strip?.rows.find(({ top, high }) => y >= strip.top + top && y < strip.top + top + high);\n\
+const from = y - strip?.top;\n\
+const row = strip?.rows.find(({ top, high }) => from >= top && from < top + high);\n\
 return row ? { pid: strip.pid, page: row.from, to: row.to } : null;\n\
 }\n\
 function mark(above) {\n\
@@ -1583,8 +1593,9 @@ const item = (text, at) =>\n\
 text && (isObserved || at > 1)\n\
 ? `<li><i style=\"background: var(${tints[at]})\"></i>${text}`\n\
 : '';\n\
-const guard = '<li><i class=\"guard\"></i>Guard page<li><i class=\"underline\"></i>\\u25c6 Copied page';\n\
-return words.map(item).join('') + (isObserved ? guard : '');\n\
+const guard = '<li><i class=\"guard\"></i>Guard page';\n\
+const copied = '<li><i class=\"underline\"></i>\\u25c6 Copied page';\n\
+return words.map(item).join('') + (isObserved ? guard + copied : '');\n\
 }\n\
 return { layOut, draw, pageAt, mark, legend, titleOf: ({ pid }) => `Process ${pid}` };\n\
 }\n\
@@ -1669,44 +1680,53 @@ return { size, starts: Array.from({ length: many }, (_, at) => first + at * size
 }\n\
 const countIn = (lines, from, to) =>\n\
 firstAt(lines, (line) => line >= to) - firstAt(lines, (line) => line >= from);\n\
-function rates(top, high) {\n\
+function faultLayers() {\n\
+const some = processes.filter(({ faults }) => faults.length);\n\
+const isShown = ({ pid }) => shown().includes(pid);\n\
+const rest = some.filter((one) => !isShown(one)).flatMap(({ faults }) => faults);\n\
+const layers = some.filter(isShown).map(({ pid, faults }) => {\n\
+return { word: 'process ' + pid, tint: tintOfProcess(pid), all: faults };\n\
+});\n\
+rest.sort((a, b) => a - b);\n\
+return rest.length ? [...layers, { word: 'others', tint: '--grey', all: rest }] : layers;\n\
+}\n\
+function ratesNow() {\n\
+const layers = faultLayers();\n\
+const height = Math.max(76, 50 + 14 * layers.length);\n\
+return layers.length ? [[height, (...place) => rates(layers, ...place)]] : [];\n\
+}\n\
+function rates(layers, top, high) {\n\
 const { axis, pen } = sheet;\n\
 const { size, starts } = windows(axis);\n\
-const some = processes.filter(({ faults }) => faults.length);\n\
-const counts = (name) =>\n\
-starts.map((from) => some.map((one) => countIn(one[name], from, from + size)));\n\
-const [all, hard] = [counts('faults'), counts('hard')];\n\
-const sumOf = (parts) => parts.reduce((sum, part) => sum + part, 0);\n\
-const most = Math.max(1, mostOf(all.map(sumOf)));\n\
-const [bottom, unit] = [top + high - 2, (high - 12) / most];\n\
+const countsIn = (lines) => starts.map((from) => countIn(lines, from, from + size));\n\
+const hard = countsIn(processes.flatMap((one) => one.hard).sort((a, b) => a - b));\n\
+const counts = layers.map(({ all }) => countsIn(all));\n\
+const most = mostOf(starts.map((_, at) => counts.reduce((sum, some) => sum + some[at], 0)));\n\
+const [bottom, unit] = [top + high - 2, (high - 12) / Math.max(1, most)];\n\
 const edge = [];\n\
 starts.forEach((from, at) => {\n\
-const [left, right] = [from, from + size].map((line) =>\n\
-clamp(axis.x(line), axis.left, axis.right),\n\
-);\n\
+const [left, right] = [axis.x(from), axis.x(from + size)].map(axis.inside);\n\
 let level = bottom;\n\
-all[at].forEach((part, which) => {\n\
-level -= part * unit;\n\
-const tint = tintOfProcess(some[which].pid);\n\
-pen.box(tint, left, level, Math.max(1, right - left - 1), part * unit, 0.75);\n\
+layers.forEach(({ tint }, which) => {\n\
+const tall = counts[which][at] * unit;\n\
+level -= tall;\n\
+pen.box(tint, left, level, Math.max(1, right - left - 1), tall, 0.75);\n\
 });\n\
-const line = bottom - sumOf(hard[at]) * unit;\n\
-edge.push(left, line, right, line);\n\
+edge.push(left, bottom - hard[at] * unit, right, bottom - hard[at] * unit);\n\
 });\n\
 sheet.rule(bottom);\n\
 sheet.rule(bottom - most * unit, '--rule', DOTTED);\n\
 pen.path('--state-5', edge, 2);\n\
-const per = RATE_UNITS.findLast((one) => one <= Math.max(1, size)) ?? 1;\n\
+rateLabels(layers, most, size, top, bottom);\n\
+}\n\
+function rateLabels(layers, most, size, top, bottom) {\n\
+const per = RATE_UNITS.findLast((one) => one <= size);\n\
 const rate = spelled(Math.round((10 * most * per) / size) / 10);\n\
-const lines = per === 1 ? 'a line' : `in ${spelled(per)} lines`;\n\
-sheet.label(top + 13, 'Faults ' + lines, rate);\n\
-if (axis.isNarrow) return;\n\
+sheet.label(top + 13, `Faults ${per === 1 ? 'a line' : `in ${spelled(per)} lines`}`, rate);\n\
+if (sheet.axis.isNarrow) return;\n\
 sheet.label(bottom - 5, '', 0);\n\
-const names = some.length > 1 ? some.slice(0, 6).map(({ pid }) => pid) : [];\n\
-const words = [['hard', '--state-5'], ...names.map((pid) => ['process ' + pid, tintOfProcess(pid)])];\n\
-words.slice(0, Math.floor((high - 20) / 14)).forEach(([word, tint], at) => {\n\
-sheet.key(top + 28 + 14 * at, word, tint);\n\
-});\n\
+const keys = [{ word: 'of them hard', tint: '--state-5' }, ...layers];\n\
+keys.forEach(({ word, tint }, at) => sheet.key(top + 29 + 14 * at, word, tint));\n\
 }\n\
 function stack(axis, pen, top, high) {\n\
 for (const { from, to, last } of axis.columns()) {\n\
@@ -1784,20 +1804,20 @@ pen.text(text, left - 8, top + 6, { tint: '--alarm', align: 'right' });\n\
 });\n\
 }\n\
 function setNumber({ pid, min, max, sizes }, largest) {\n\
-const top = clamp(max, largest, 2 * largest);\n\
-return { title: 'Working set ' + pid, tint: '--state-4', values: sizes, top, most: () => max, least: min };\n\
+const limits = { top: clamp(max, largest, 2 * largest), most: () => max, least: min };\n\
+return { title: 'Working set ' + pid, tint: '--state-4', values: sizes, ...limits };\n\
 }\n\
 function otherNumbers() {\n\
 const { allSlots, slots, requests, committed } = numbers;\n\
 const inUse = allSlots.map((all, line) => all - slots[line]);\n\
 const limit = (line) => machine.frames + allSlots[line] - 2 * machine.depth - 2;\n\
 const { depth } = machine;\n\
+const top = Math.max(1, limit(count));\n\
+const keys = ['Keys, not the charge', '--accent', committed, top, limit, charges];\n\
 return [\n\
 ['Paging-file slots', '--state-2', inUse, allSlots[count], (line) => allSlots[line]],\n\
 ['Requests in flight', '--state-5', requests, depth, () => depth],\n\
-...(space.charge\n\
-? []\n\
-: [['Keys, not the charge', '--accent', committed, Math.max(1, limit(count)), limit, charges]]),\n\
+...(space.charge ? [] : [keys]),\n\
 ]\n\
 .map(([title, tint, values, top, most, dots]) => ({ title, tint, values, top, most, dots }))\n\
 .filter(({ top }) => top);\n\
@@ -1840,7 +1860,8 @@ return { ...setNumber(process, largest), ages: ages.get(pid) };\n\
 });\n\
 return [...sets, ...others];\n\
 }\n\
-return { texts, lineNumbers, events, rates, lists, stack, chargeTrack, numberTrack, numbersNow };\n\
+const kinds = { texts, lineNumbers, events, lists, stack, chargeTrack, numberTrack };\n\
+return { ...kinds, ratesNow, numbersNow };\n\
 }\n\
 const WIDE_LEFT = 150;\n\
 const NARROW = 640;\n\
@@ -1853,6 +1874,7 @@ const column = (right - left) / count;\n\
 const x = (line) => left + (line - first) * column;\n\
 const middle = (line) => x(line + 0.5);\n\
 const has = (line) => line >= first && line <= last;\n\
+const inside = (place) => clamp(place, left, right);\n\
 const isInside = (place) => place >= left && place <= right;\n\
 const lineAt = (place) => clamp(first + Math.floor((place - left) / column), first, last);\n\
 function columns() {\n\
@@ -1863,8 +1885,8 @@ return Array.from({ length: most }, (_, at) => {\n\
 return { from: edge(at), to: edge(at + 1), first: line(at), last: line(at + 1) - 1 };\n\
 });\n\
 }\n\
-const isNarrow = left < WIDE_LEFT;\n\
-return { first, last, left, right, isNarrow, count, column, columns, x, middle, has, isInside, lineAt };\n\
+const ways = { columns, x, middle, has, inside, isInside, lineAt };\n\
+return { first, last, left, right, isNarrow: left < WIDE_LEFT, count, column, ...ways };\n\
 }\n\
 class Sheet {\n\
 begin(pen, axis) {\n\
@@ -1876,9 +1898,9 @@ this.parts.push(draw);\n\
 label(top, title, value = '') {\n\
 const { pen, axis, heading } = this;\n\
 const { left, right, isNarrow } = axis;\n\
-const align = isNarrow ? 'right' : 'left';\n\
-const write = (on, text) =>\n\
-on.text(text, isNarrow ? right : right + 8, isNarrow ? heading : top, { tint: '--soft', align });\n\
+const look = { tint: '--soft', align: isNarrow ? 'right' : 'left' };\n\
+const place = isNarrow ? [right, heading] : [right + 8, top];\n\
+const write = (on, text) => on.text(text, ...place, look);\n\
 if (isNarrow) pen.text(title, left, heading);\n\
 else pen.text(title, left - 10, top, { align: 'right' });\n\
 if (typeof value === 'function') this.later((above) => write(above, value()));\n\
@@ -1895,9 +1917,10 @@ const level = Math.round(top) + 0.5;\n\
 this.pen.path(tint, [this.axis.left, level, this.axis.right, level], 1, dash);\n\
 }\n\
 side(top, high, text) {\n\
+const look = { align: 'center', turn: -Math.PI / 2 };\n\
 if (this.axis.isNarrow) this.label(top, text);\n\
 else if (high < 60) this.pen.text(text, 4, top + 8, { font: SMALL });\n\
-else this.pen.text(text, 14, top + Math.min(high, 400) / 2, { align: 'center', turn: -Math.PI / 2 });\n\
+else this.pen.text(text, 14, top + Math.min(high, 400) / 2, look);\n\
 }\n\
 }\n\
 function makeCharts(page) {\n\
@@ -1908,7 +1931,8 @@ const sheet = new Sheet();\n\
 const [frameChart, stripChart] = [makeFrameChart(page), makeStripChart(page)];\n\
 const tracks = makeTracks(page, sheet);\n\
 const { frameAt, paints } = frameChart;\n\
-const charts = { draw, mark, show, frameAt, pageAt: stripChart.pageAt, paints, axis: null, whole: null };\n\
+const { pageAt } = stripChart;\n\
+const charts = { draw, mark, show, frameAt, pageAt, paints, axis: null, whole: null };\n\
 const margin = frames.length + survey.numbers.allSlots[count] < 1000 ? 84 : 126;\n\
 const numberHeight = processes.length > 7 ? 26 : 40;\n\
 let [drawn, size] = ['', null];\n\
@@ -1925,13 +1949,12 @@ sheet.side(top, high, frameChart.title());\n\
 }\n\
 function tracksNow(axis) {\n\
 const strips = stripChart.layOut(axis);\n\
-const hasFaults = processes.some(({ faults }) => faults.length) && count > 8;\n\
 return [\n\
 axis.column < 10 ? [24, tracks.lineNumbers] : [axis.column < 20 ? 226 : 190, tracks.texts],\n\
 ...survey.tracks.map((track) => [15, (...place) => tracks.events(track, ...place)]),\n\
 ...strips.map(stripTrack),\n\
 ...(space.charge ? [[96, tracks.chargeTrack]] : []),\n\
-...(hasFaults ? [[76, tracks.rates]] : []),\n\
+...tracks.ratesNow(),\n\
 [frameChart.layOut(axis), drawFrames],\n\
 [96, tracks.lists],\n\
 ...tracks\n\
@@ -2076,7 +2099,7 @@ function rowsOf(pid, allocation, line, isShort) {\n\
 const { from, to, stand, counts, runs } = allocation;\n\
 const first = isObserved ? protectionIn(stand.first) : '';\n\
 const row = (run, address, type) => [\n\
-`<code>${addressOf(run.from)}</code>`,\n\
+`<code class=\"${type ? '' : 'inner'}\">${addressOf(address)}</code>`,\n\
 ...[sizeOf(run.to - run.from), type, wordsOfStand(run.stand)],\n\
 ...[...numbersOf(run.counts), pagesOf(pid, run, line)],\n\
 ];\n\
@@ -2087,7 +2110,7 @@ if (runs.length === 1) return [row(runs[0], from, type)];\n\
 const some = quiet(`${runs.length} runs`);\n\
 const sum = [...numbersOf(counts), isShort ? barOf(counts) : ''];\n\
 const head = [`<code>${addressOf(from)}</code>`, sizeOf(to - from), type, some, ...sum];\n\
-const inner = (run) => row(run, from, '').with(0, quiet(`<code>${addressOf(run.from)}</code>`));\n\
+const inner = (run) => row(run, run.from, '');\n\
 return [head, ...(isShort ? [] : runs.map(inner))];\n\
 }\n\
 function spaceOf(pid, line) {\n\
@@ -2112,7 +2135,8 @@ const committed = KINDS_SHOWN.reduce((all, kind) => all + counts[kind], 0);\n\
 const some = KINDS_SHOWN.filter((kind) => counts[kind]);\n\
 const parts = some.map((kind) => `${spelled(counts[kind])} ${PAGE_KINDS[kind]}`);\n\
 const reserved = counts[IS_RESERVED] ? `, ${sizeOf(counts[IS_RESERVED])} reserved` : '';\n\
-return `${sizeOf(committed)} committed${reserved}; pages: ${parts.join(', ') || 'none'}`;\n\
+const what = isObserved ? 'committed' : 'that the log knows';\n\
+return `${sizeOf(committed)} ${what}${reserved}; pages: ${parts.join(', ') || 'none'}`;\n\
 }\n\
 function show(line) {\n\
 const tables = shown().map((pid) => spaceOf(pid, line));\n\
@@ -2152,13 +2176,14 @@ const quiet = (text) => `<span class=\"quiet\">${text}</span>`;\n\
 const button = (kind, id, text, look = 'reference') =>\n\
 `<button class=\"${look}\" data-${kind}=\"${id}\">${text}</button>`;\n\
 const addressBehind = ({ pid, page }) => (pid && page < 2 ** 20 ? ' ' + addressOf(page) : '');\n\
+const withAddress = (thing) => thing.name + addressBehind(thing);\n\
 function reference(kind, thing, text = thing.name) {\n\
 const name = kind === 'place' ? text : button(kind, thing.id, text);\n\
 return name + (thing.pid ? quiet(addressBehind(thing)) : '');\n\
 }\n\
 const chip = (state, kind, thing, text) => button(kind, thing.id, dot(state) + text, 'chip');\n\
 const frameChip = ({ frame, owner, state }, more = '') =>\n\
-chip(state, 'frame', frame, [frame.name, owner && owner.name + addressBehind(owner), more].join(' '));\n\
+chip(state, 'frame', frame, [frame.name, owner && withAddress(owner), more].join(' '));\n\
 function firstOf(list, most, make) {\n\
 const more = list.length - most;\n\
 const rest = more > 0 ? [quiet(`and ${spelled(more)} more`)] : [];\n\
@@ -2220,9 +2245,11 @@ return listOf(items) + (moves.length > 1 ? fold : '');\n\
 }\n\
 function turnOf(frame, moves) {\n\
 const events = moves.filter(({ class: { group } }) => group in survey.numbers);\n\
-const told = (events.length ? events : moves.slice(-1)).map((move) => sentenceOf(move, reference));\n\
+const some = events.length ? events : moves.slice(-1);\n\
+const told = some.map((move) => sentenceOf(move, reference));\n\
 const [was, is] = [frame.after(view.line - 1), moves.at(-1)];\n\
-const stand = ({ state, owner }) => dot(state) + STATES[state] + (owner ? ' ' + owner.name : '');\n\
+const stand = ({ state, owner }) =>\n\
+`${dot(state)}${STATES[state]} ${owner ? withAddress(owner) : ''}`.trimEnd();\n\
 const isSame = was.state === is.state && was.owner === is.owner;\n\
 const turn = isSame ? stand(is) + ', as before' : `${stand(was)} &rarr; ${stand(is)}`;\n\
 return `${told.join('; ')}<span class=\"turn\">frame ${frame.name}: ${turn}</span>`;\n\
@@ -2253,9 +2280,9 @@ waits.length ? definition('Threads that wait', threads, thread) : '',\n\
 ]);\n\
 }\n\
 function setsOf({ sets }) {\n\
-const age = data.hasAges ? ({ age }) => `, age ${age}` : () => '';\n\
+const age = data.hasAges ? ({ age }) => ` age ${age}` : () => '';\n\
 const make = (one) =>\n\
-chip(ACTIVE, 'frame', one.frame, `page ${one.page}${addressBehind(one)}${age(one)}`);\n\
+chip(ACTIVE, 'frame', one.frame, one.page + addressBehind(one) + age(one));\n\
 const live = data.processes.filter(({ line }) => line <= view.line);\n\
 const some = live.filter(({ pid }) => shown().includes(pid));\n\
 const rows = some.map(({ pid, min, max }) => {\n\
@@ -2270,12 +2297,13 @@ return rows.length ? section(`Working sets (active pages${order})`, rows) + othe
 function agesIn(set) {\n\
 if (!data.hasAges || !set.length) return '';\n\
 const ages = [...Map.groupBy(set, ({ age }) => age)].reverse();\n\
-return quiet('; ages ' + ages.map(([age, { length }]) => `${age}: ${spelled(length)}`).join(', '));\n\
+const counts = ages.map(([age, some]) => `${spelled(some.length)} of age ${age}`);\n\
+return quiet('; ' + counts.join(', '));\n\
 }\n\
 function homesOf({ away, slots, allSlots }) {\n\
 const row = (title, state, isHome, note) => {\n\
 const make = ({ page, home }) =>\n\
-chip(state, 'page', page, `${page.name}${addressBehind(page)} ${home}`);\n\
+chip(state, 'page', page, `${withAddress(page)} ${home}`);\n\
 return definition(title, away.filter(({ home }) => isHome(home)), make, note);\n\
 };\n\
 const inUse = quiet(`${spelled(allSlots - slots)} of ${spelled(allSlots)} slots in use`);\n\
@@ -2286,19 +2314,20 @@ row('Files', STANDBY, (home) => home.startsWith('block')),\n\
 ]);\n\
 }\n\
 function historyOf({ kind, thing }) {\n\
-const { moves, name } = thing;\n\
+const { moves } = thing;\n\
 const first = Math.max(0, thing.countUpTo(view.line - 1) - MOST_OF_HISTORY / 2);\n\
 const part = moves.slice(first, first + MOST_OF_HISTORY);\n\
 const near = part.length < moves.length ? '; those near this line' : '';\n\
+const inWords = (kind, it, text) => text + addressBehind(it);\n\
 const row = ([line, some]) => [\n\
 button('line', line, line),\n\
 some.at(-1).frame ? dot(some.at(-1).state) : '',\n\
 (line === view.line ? '<span class=\"chosen\"></span>' : '') +\n\
-some.map((move) => sentenceOf(move)).join('; '),\n\
+some.map((move) => sentenceOf(move, inWords)).join('; '),\n\
 ];\n\
 const rows = [...Map.groupBy(part, ({ line }) => line)].map(row);\n\
 return (\n\
-`<h2><span>History of ${kind} ${name}${addressBehind(thing)}</span>` +\n\
+`<h2><span>History of ${kind} ${withAddress(thing)}</span>` +\n\
 '<button data-press=\"Escape\">Close</button></h2>' +\n\
 `<p class=\"quiet\">${spelled(moves.length)} moves${near}</p>` +\n\
 `<div class=\"rows\">${table([], rows)}</div>`\n\
@@ -2323,7 +2352,7 @@ return keys.map((key) => ({ key, kind: keyKind(key, view.line) }));\n\
 }\n\
 function sectionsOf() {\n\
 const live = sections.filter(({ line }) => line <= view.line);\n\
-const heads = ['Section', 'Pages', 'Views', ...KINDS_SHOWN.map((kind) => capital(PAGE_KINDS[kind]))];\n\
+const kinds = KINDS_SHOWN.map((kind) => capital(PAGE_KINDS[kind]));\n\
 const rows = firstOf(live, MOST_SECTIONS, (one) => {\n\
 const found = pagesOf(one);\n\
 const counts = PAGE_KINDS.map((_, kind) => found.filter((page) => page.kind === kind).length);\n\
@@ -2336,7 +2365,8 @@ const places = firstOf(views, 6, (text) => text).join(', ');\n\
 const shown = `<span class=\"cells\">${cells}</span>`;\n\
 return [name, one.pages, places || quiet('none'), ...numbersOf(counts), shown];\n\
 });\n\
-return rows.length ? title('Sections') + table([...heads, 'Frames'], rows) : '';\n\
+const heads = ['Section', 'Pages', 'Views', ...kinds, 'Frames'];\n\
+return rows.length ? title('Sections') + table(heads, rows) : '';\n\
 }\n\
 function cellOf({ key, kind }) {\n\
 const moment = key?.after(view.line);\n\
@@ -2344,11 +2374,13 @@ const where = moment?.owner ? 'frame ' + moment.frame.name : moment?.home || 'ze
 const target = key ? `data-page=\"${key.id}\"` : 'disabled';\n\
 const text = `${key?.name ?? 'no key'}: ${PAGE_KINDS[kind]}, ${where}`;\n\
 const look = `class=\"cell named\" style=\"${tintOfKind(kind)}\" title=\"${text}\"`;\n\
-return `<button ${look} tabindex=\"-1\" ${target}>${moment?.owner ? moment.frame.name : ''}</button>`;\n\
+const name = moment?.owner ? moment.frame.name : '';\n\
+return `<button ${look} tabindex=\"-1\" ${target}>${name}</button>`;\n\
 }\n\
 function slotsOf({ frames, away, allSlots, slots }) {\n\
 const held = new Map();\n\
-const hold = (home, page, kind) => isSlot(home) && held.set(Number(home.slice(5)), { page, kind });\n\
+const hold = (home, page, kind) =>\n\
+isSlot(home) && held.set(Number(home.slice(5)), { page, kind });\n\
 for (const { home, page } of away) hold(home, page, 'on disk alone');\n\
 for (const { backing, owner, request, frame } of frames) {\n\
 const isWritten = request === WRITE || request === WRITE_AGAIN;\n\
@@ -2357,9 +2389,10 @@ hold(backing, owner, isWritten ? 'being written' : `also in frame ${frame.name}`
 if (!allSlots) return '';\n\
 const all = [...held.keys()].sort((a, b) => a - b);\n\
 const isAll = allSlots <= MOST_SLOTS;\n\
-const shown = isAll ? Array.from({ length: allSlots }, (_, slot) => slot) : all.slice(0, MOST_SLOTS);\n\
+const every = isAll ? Array.from({ length: allSlots }, (_, slot) => slot) : all;\n\
 const some = isAll || all.length <= MOST_SLOTS ? '' : `, the first ${MOST_SLOTS} of them here`;\n\
 const sum = `${spelled(allSlots - slots)} of ${spelled(allSlots)} slots in use${some}`;\n\
+const shown = every.slice(0, MOST_SLOTS);\n\
 const cells = shown.map((slot) => slotCell(slot, held.get(slot))).join('');\n\
 return `${title('Paging file')}<p class=\"quiet\">${sum}</p><div class=\"cells\">${cells}</div>`;\n\
 }\n\
@@ -2367,7 +2400,7 @@ const SLOT_TINTS = { 'on disk alone': READING, 'being written': WRITING };\n\
 function slotCell(slot, holds) {\n\
 const { page, kind } = holds ?? {};\n\
 const tint = holds ? SLOT_TINTS[kind] ?? STANDBY : ZEROED;\n\
-const name = page ? page.name + addressBehind(page) : 'a page that was deleted';\n\
+const name = page ? withAddress(page) : 'a page that was deleted';\n\
 const text = `slot ${slot}: ${holds ? `${name}, ${kind}` : 'free'}`;\n\
 const target = page ? `data-page=\"${page.id}\"` : 'disabled';\n\
 const look = `class=\"cell\" style=\"background: var(${tintOf(tint)})\" title=\"${text}\"`;\n\
@@ -2563,8 +2596,9 @@ const said = `Line ${number}: ${text}${answer && ' \\u2192 ' + answer}`;\n\
 if (spot) return `${said}. ${spotText(spot, number)}`;\n\
 if (!frame) return [said, ...eventsIn(survey, number, number)].join('. ');\n\
 const { state, owner, isChanged } = frame.after(number);\n\
-const page = owner ? `, ${owner.name}${addressBehind(owner)}${isChanged ? ', changed' : ''}` : '';\n\
-return `${said}. Frame ${frame.name}: ${STATES[state]}${page}`;\n\
+const page = owner && owner.name + addressBehind(owner);\n\
+const words = [STATES[state], page, owner && isChanged && 'changed'];\n\
+return `${said}. Frame ${frame.name}: ${words.filter(Boolean).join(', ')}`;\n\
 }\n\
 plot.addEventListener('pointermove', ({ offsetX, offsetY, clientX, clientY }) => {\n\
 tip.hidden = !charts.axis.isInside(offsetX);\n\
