@@ -5,20 +5,27 @@ const PAGE_KINDS = ['none', 'reserved', 'on disk', 'not touched', 'in memory', '
 const [NONE, IS_RESERVED, ON_DISK, UNTOUCHED, IN_MEMORY, VALID] = PAGE_KINDS.keys();
 const isLive = (page, line) => (page?.after(line)?.class.word ?? 'drop') !== 'drop';
 
-function makePages({ data, space: { spaces, stands }, sections: { useOf, useAt } }) {
+function makePages({ data, space, sections: { useOf, useAt } }) {
   const { pages, places } = data;
+  const { spaces, stands, isObserved } = space;
   const standsById = [...stands.values()];
   const sharedKey = ({ section, offset, base }, page) =>
     section && pages.get(idOf(2 * section.area + 1, page - base + offset));
 
   // what the log knows at a page of a region: its place, its own key, the key of its section
   function thingsAt(pid, page, stand, line) {
-    const use = stand.type === MAPPED ? useOf(pid, stand.base, line) : undefined;
     const [place, own] = [places.get(idOf(pid, page)), pages.get(idOf(2 * pid, page))];
-    return { place, own, shared: use && sharedKey(use, page) };
+    if (isObserved) {
+      const use = stand.type === MAPPED && useOf(pid, stand.base, line);
+      return { place, own, shared: use ? sharedKey(use, page) : undefined };
+    }
+    const use = useAt(pid, page, line);
+    const isShared = (move) => move.page && !move.page.pid;
+    const shared = use ? sharedKey(use, page) : place?.moves.find(isShared)?.page;
+    return { place, own, shared };
   }
   const keyIn = ({ place, own, shared }, line) =>
-    isLive(own, line) ? own : (shared ?? place?.after(line)?.frame?.after(line).owner);
+    isLive(own, line) ? own : (shared ?? place?.after(line)?.page);
   function kindOf(things, line) {
     if (things.place?.after(line)?.class.word === 'map') return VALID;
     const kind = keyKind(keyIn(things, line), line);
@@ -37,7 +44,7 @@ function makePages({ data, space: { spaces, stands }, sections: { useOf, useAt }
     isCopied: Boolean(code & 8),
     stand: standsById[code >> 4],
   });
-  const isCopiedIn = ({ type }, { own }, line) => type === MAPPED && isLive(own, line);
+  const isCopiedIn = ({ own }, line) => Boolean(own?.isCopy) && isLive(own, line);
 
   // A page's life: lines, and the code from each on; -1 where it is free.
   function lifeOf(space, page) {
@@ -51,7 +58,7 @@ function makePages({ data, space: { spaces, stands }, sections: { useOf, useAt }
     function pushStands({ since, until, stand }) {
       const things = thingsAt(space.pid, page, stand, since);
       for (const line of changesIn(things, since, until)) {
-        push(line, codeOf(kindOf(things, line), stand, isCopiedIn(stand, things, line)));
+        push(line, codeOf(kindOf(things, line), stand, isCopiedIn(things, line)));
       }
     }
     for (const rect of space.rectsAt(page)) {
@@ -91,7 +98,7 @@ function makePages({ data, space: { spaces, stands }, sections: { useOf, useAt }
     const isReserved = stand.state === RESERVED;
     const kind = isReserved ? IS_RESERVED : kindOf(things, line);
     const key = isReserved ? undefined : keyIn(things, line);
-    return { kind, key, isCopied: isCopiedIn(stand, things, line), stand };
+    return { kind, key, isCopied: isCopiedIn(things, line), stand };
   }
   // The page's key, after a line or, where it has none then, at any time.
   function keyOf(pid, page, line) {

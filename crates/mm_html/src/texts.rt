@@ -936,18 +936,25 @@ const nameOfUse = (use) => (use?.section ? use.section.name : use ? 'stack ' + u
 const PAGE_KINDS = ['none', 'reserved', 'on disk', 'not touched', 'in memory', 'valid'];\n\
 const [NONE, IS_RESERVED, ON_DISK, UNTOUCHED, IN_MEMORY, VALID] = PAGE_KINDS.keys();\n\
 const isLive = (page, line) => (page?.after(line)?.class.word ?? 'drop') !== 'drop';\n\
-function makePages({ data, space: { spaces, stands }, sections: { useOf, useAt } }) {\n\
+function makePages({ data, space, sections: { useOf, useAt } }) {\n\
 const { pages, places } = data;\n\
+const { spaces, stands, isObserved } = space;\n\
 const standsById = [...stands.values()];\n\
 const sharedKey = ({ section, offset, base }, page) =>\n\
 section && pages.get(idOf(2 * section.area + 1, page - base + offset));\n\
 function thingsAt(pid, page, stand, line) {\n\
-const use = stand.type === MAPPED ? useOf(pid, stand.base, line) : undefined;\n\
 const [place, own] = [places.get(idOf(pid, page)), pages.get(idOf(2 * pid, page))];\n\
-return { place, own, shared: use && sharedKey(use, page) };\n\
+if (isObserved) {\n\
+const use = stand.type === MAPPED && useOf(pid, stand.base, line);\n\
+return { place, own, shared: use ? sharedKey(use, page) : undefined };\n\
+}\n\
+const use = useAt(pid, page, line);\n\
+const isShared = (move) => move.page && !move.page.pid;\n\
+const shared = use ? sharedKey(use, page) : place?.moves.find(isShared)?.page;\n\
+return { place, own, shared };\n\
 }\n\
 const keyIn = ({ place, own, shared }, line) =>\n\
-isLive(own, line) ? own : (shared ?? place?.after(line)?.frame?.after(line).owner);\n\
+isLive(own, line) ? own : (shared ?? place?.after(line)?.page);\n\
 function kindOf(things, line) {\n\
 if (things.place?.after(line)?.class.word === 'map') return VALID;\n\
 const kind = keyKind(keyIn(things, line), line);\n\
@@ -965,7 +972,7 @@ kind: code & 7,\n\
 isCopied: Boolean(code & 8),\n\
 stand: standsById[code >> 4],\n\
 });\n\
-const isCopiedIn = ({ type }, { own }, line) => type === MAPPED && isLive(own, line);\n\
+const isCopiedIn = ({ own }, line) => Boolean(own?.isCopy) && isLive(own, line);\n\
 function lifeOf(space, page) {\n\
 const known = space.lives.get(page);\n\
 if (known) return known;\n\
@@ -977,7 +984,7 @@ else if (codes.at(-1) !== code) codes[lines.push(line) - 1] = code;\n\
 function pushStands({ since, until, stand }) {\n\
 const things = thingsAt(space.pid, page, stand, since);\n\
 for (const line of changesIn(things, since, until)) {\n\
-push(line, codeOf(kindOf(things, line), stand, isCopiedIn(stand, things, line)));\n\
+push(line, codeOf(kindOf(things, line), stand, isCopiedIn(things, line)));\n\
 }\n\
 }\n\
 for (const rect of space.rectsAt(page)) {\n\
@@ -1014,7 +1021,7 @@ const things = thingsAt(pid, page, stand, line);\n\
 const isReserved = stand.state === RESERVED;\n\
 const kind = isReserved ? IS_RESERVED : kindOf(things, line);\n\
 const key = isReserved ? undefined : keyIn(things, line);\n\
-return { kind, key, isCopied: isCopiedIn(stand, things, line), stand };\n\
+return { kind, key, isCopied: isCopiedIn(things, line), stand };\n\
 }\n\
 function keyOf(pid, page, line) {\n\
 const use = useAt(pid, page, line) ?? useAt(pid, page, Infinity);\n\
