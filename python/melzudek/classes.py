@@ -19,6 +19,16 @@ GROUPS = {
     "synchronous": "E",  # write-outs that an access began for want of frames, and waits for
 }
 FAULTS = ("zero", "copy", "soft", "hard", "collided")
+# how the class of an event that is a fault begins, as `mmshow events` writes it
+BEGINNINGS = {
+    **{
+        "demand-zero": "zero",
+        "demand zero": "zero",
+        "copy-on-write": "copy",
+        "copy on write": "copy",
+    },
+    **{"soft": "soft", "hard": "hard", "collided": "collided"},
+}
 # what columns of `mmshow faults csv` are called, by the group that they belong to
 COLUMNS = {
     **{"demand-zero": "zero", "demand-0": "zero", "zero": "zero"},
@@ -48,3 +58,11 @@ def by_process(rows: Iterable[Mapping[str, str]]) -> dict[int, dict[str, int]]:
             if name in COLUMNS:
                 counts[COLUMNS[name]] += int(value)
     return found
+
+
+def fault_of(name: str) -> str | None:
+    """Which of FAULTS the class of an event is; None where it is no fault."""
+    for beginning, fault in BEGINNINGS.items():
+        if name.startswith(beginning):
+            return fault
+    return None

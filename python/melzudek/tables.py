@@ -23,10 +23,11 @@ from pathlib import Path
 from typing import IO, Any
 
 from . import programs
+from .classes import fault_of, grouped
 from .errors import Ended, Mistake
 from .libraries import require
 from .names import ERROR, STATUS
-from .scripts import Script, read_script
+from .scripts import ACCESSES, Script, read_script
 
 require("pandas")
 import pandas  # noqa: E402  (what says which package has it comes first)
@@ -38,7 +39,6 @@ OLD = (
 )
 WHOLE = {"line", "process", "page", "frame"}  # columns of events that are whole numbers or empty
 TEXTS = {"kind", "class", "from", "to"}  # of few different texts
-FAULTS = ("hard", "soft", "demand-zero", "copy-on-write", "collided")
 WORDS = 7  # of the longest move, `at 1 machine 8 4 2 2`
 ROWS = 1 << 18  # of the log that are read at a time
 MOST_SHOWN = 4 << 20  # bytes of a page that a notebook is still given
@@ -123,16 +123,18 @@ class Run:
         return {word: int(count) for word, count in map(str.split, text[1:])}
 
     @cached_property
-    def sums(self) -> dict[str, int]:
-        """`mmshow sums`: how many moves are of each class, by its letter (PROFILE, section 12)."""
-        said = self.say("sums").read().decode("ascii").splitlines()
-        return {it.rpartition(" ")[0]: int(it.rpartition(" ")[2]) for it in said}
+    def count(self) -> dict[str, int]:
+        """References and faults as a row of a sweep has them: for costs, and for a first look."""
+        references = sum(line.startswith(ACCESSES) for line in self.lines)
+        sums = self.say("sums").read().decode("ascii").splitlines()
+        return {"references": references, **grouped(sums)}
 
     @cached_property
     def faults(self) -> Any:
-        """The events that are faults, with the column `fault`: one of FAULTS."""
+        """The events that are faults, with the column `fault`: zero, copy, soft, hard, collided."""
         table = self.events
-        table = table.assign(fault=fault_of(table["class"]))
+        names = {name: fault_of(name) for name in table["class"].cat.categories}
+        table = table.assign(fault=table["class"].astype("object").map(names))
         return table[table["fault"].notna()].reset_index(drop=True)
 
     @property
@@ -237,12 +239,6 @@ def windows_name(answer: str) -> str:
     if word == "error":
         return f"ERROR_{ERROR(int(code)).name}"
     return f"STATUS_{STATUS(int(code, 16)).name}" if word == "raise" else ""
-
-
-def fault_of(classes: Any) -> Any:
-    """Which of FAULTS a class of events is, by the word that it begins with; else nothing."""
-    names = {it: next((one for one in FAULTS if it.startswith(one)), None) for it in set(classes)}
-    return classes.astype("object").map(names)
 
 
 def typed(table: Any) -> Any:
