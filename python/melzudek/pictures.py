@@ -199,7 +199,8 @@ def lines_of(
     costs: Costs | None,
 ) -> Iterator[tuple[str, list[float], list[float]]]:
     """The name and the points of each line, in order."""
-    groups = table.groupby(list(by)) if by else [((), table)]
+    grouper = by[0] if len(by) == 1 else list(by)
+    groups = table.groupby(grouper) if by else [((), table)]
     for values, part in groups:
         part = part.sort_values(across)
         heights = costs.effective(part) if costs else part[up]

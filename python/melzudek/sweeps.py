@@ -30,7 +30,7 @@ from .scripts import Script, Value, read_script
 from .workers import COUNTS, Row, ScriptSource, Source, packed, row_of, tools, unpacked
 
 RETRIES = 3  # of a task whose worker was lost or whose call of the network failed
-SECONDS = 30  # to find a scheduler, and a first worker
+SECONDS = 15  # to find a scheduler, and as many to find a first worker
 Share = tuple[int, int]
 
 
@@ -57,11 +57,12 @@ def sweep(
     require("dask", "distributed", "tqdm")
     made = source if isinstance(source, Source) else ScriptSource(read_script(source))
     machines = grid(vary, made)[only[0] - 1 :: only[1]]
+    bundle = packed(made, tools())
     table = Table(Path(to) if to is not None else None, columns(vary, made), list(vary))
     done = table.open(resume)
     wanted = [it for it in machines if table.key(it) not in done]
     with table, Cluster(scheduler, workers, len(wanted)) as cluster:
-        yield from bar(run_all(cluster, made, wanted, table), len(wanted), progress)
+        yield from bar(run_all(cluster, bundle, wanted, table), len(wanted), progress)
 
 
 def grid(vary: Mapping[str, Iterable[Value]], source: Source) -> list[dict[str, Value]]:
@@ -223,7 +224,7 @@ def package(folder: str) -> str:
 
 
 def run_all(
-    cluster: Cluster, source: Source, machines: Sequence[dict[str, Value]], table: Table
+    cluster: Cluster, bundle: bytes, machines: Sequence[dict[str, Value]], table: Table
 ) -> Iterator[Row]:
     """A task for each machine; the source and the programs are one more, which all of them need.
 
@@ -235,7 +236,7 @@ def run_all(
 
     dask: Any = distributed
     client = cluster.client
-    carried = client.submit(unpacked, packed(source, tools()), retries=RETRIES)
+    carried = client.submit(unpacked, bundle, retries=RETRIES)
     tasks = {client.submit(row_of, carried, it, pure=False, retries=RETRIES): it for it in machines}
     for task in dask.as_completed(tasks):
         row = finished(task, tasks[task])
