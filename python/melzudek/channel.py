@@ -20,6 +20,7 @@ from .errors import Ended
 
 BATCH = 4096  # what mmsim reads at a time, and a pipe takes whole
 PIPE = 65536
+FEW_MOVES = 8192
 LAST_TEXTS = (b"bad line ", b"too long line ", b"usage: ")
 INTERRUPTED = (
     "the run is over: it was interrupted between a line and its answer (or asked by two threads at"
@@ -115,6 +116,13 @@ class Channel:
             parts.append(part)
             start += len(part)
         return b"".join(parts)
+
+    def new_moves(self, start: int) -> bytes:
+        """The bytes of the log from there to its end."""
+        moves = os.pread(self.moves, FEW_MOVES, start)
+        if len(moves) == FEW_MOVES:
+            moves += self.read_moves(start + FEW_MOVES, self.size())
+        return moves
 
     def close(self) -> int:
         """Ends the run as its script's end does, and gives mmsim's status. The log stays."""

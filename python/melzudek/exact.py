@@ -21,18 +21,20 @@ from typing import BinaryIO
 import numpy as np
 
 from . import programs
+from .bulk import FEWEST, Search
 from .channel import BATCH, Channel
 from .errors import Mistake
 from .layout import WINDOW_BITS, Layout, NoRoom
+from .manager import Manager, Rules
 from .rhythm import Clock, Rhythm
 from .traces.base import EXECUTE, KIND_BITS, READ, WRITE, Chunk, Codes, Pages
 
 MOST_LINES = 1_000_000
 MOST_SLOTS = 262_144
 MOST_BLOCKS = 65_536
-FEWEST, MOST = 64, 1 << 16  # references that are looked up at once
 KINDS = 1 << KIND_BITS
 PIECE_BITS = 4  # a file is mapped in pieces of 16 pages, a granule
+LOOK = "look"  # in place of a line: the manager's turn
 Limits = Mapping[str, int]
 
 
@@ -76,16 +78,14 @@ class Setup:
         return least, self.maximum.get(name, self.maximum.get("", 65_536))
 
 
-class Known:
+class Known(Search):
     """What lines and moves tell of places and page frames.
 
-    `loud` has a byte for each code, 0 where such a reference changes nothing. Python sets single
-    bytes of it, and `view` is the same bytes for numpy.
+    A code is loud where such a reference may change something.
     """
 
     def __init__(self) -> None:
-        self.loud = bytearray(b"\1" * (1 << 12))
-        self.view = np.frombuffer(self.loud, np.uint8)
+        super().__init__()
         self.number: dict[bytes, int] = {}  # of a place by its text in moves
         self.owner: list[int] = []  # the process of each place
         self.owners = np.zeros(0, np.int64)
@@ -97,7 +97,7 @@ class Known:
         self.again: set[int] = set()  # those of them that were written to since
         self.written: set[int] = set()  # places that the script wrote
         self.gone = 0  # places that were valid
-        self.stirred = False  # whether a page frame went from one list to another
+        self.stirred = True  # whether a page frame went from one list to another
         self.actions: dict[bytes, Callable[[list[bytes]], None]] = {
             b"map": self.map,
             b"unmap": self.unmap,
@@ -113,9 +113,7 @@ class Known:
         number = len(self.owner)
         self.number[b"%d.%d" % (pid, page)] = number
         self.owner.append(pid)
-        if (number + 1) * KINDS > len(self.loud):
-            self.loud = bytearray(bytes(self.loud) + b"\1" * len(self.loud))
-            self.view = np.frombuffer(self.loud, np.uint8)
+        self.room((number + 1) * KINDS)
 
     def replay(self, text: bytes) -> None:
         """Takes moves in."""
@@ -186,8 +184,7 @@ class Known:
 class Filter:
     """Drives a machine by references, and writes the script that it was given.
 
-    With `whole` nothing is left out. `look_at` is called after each `every` references of the
-    trace: see melzudek.manager.
+    With `whole` nothing is left out. With `rules` a manager looks after the machine.
     """
 
     def __init__(
@@ -198,15 +195,14 @@ class Filter:
         *,
         blocks: int = 0,
         whole: bool = False,
-        every: int = 0,
-        look_at: Callable[[Filter], None] | None = None,
+        rules: Rules | None = None,
     ) -> None:
         self.to = to
         self.trace = pages
         self.setup = setup
         self.whole = whole
-        self.look_at = look_at
-        looks = ((every, "look"),) if look_at else ()
+        self.manager = Manager(rules) if rules else None
+        looks = ((rules.every, LOOK),) if rules else ()
         self.clock = Clock(Rhythm((*setup.rhythm.rules, *looks), setup.rhythm.by_time))
         self.known = Known()
         self.layouts: list[Layout] = []  # of each process
@@ -220,7 +216,6 @@ class Filter:
         self.told = 0  # bytes of moves that were taken in
         self.lines = self.references = 0
         self.why: Counter[str] = Counter()
-        self.step = FEWEST
         self.reason = ""  # why it stopped
         self.channel = Channel()
         self.post(b"machine %d %d %d %d" % (setup.frames, setup.slots, setup.depth, blocks))
@@ -249,29 +244,47 @@ class Filter:
         for answer in answers:
             if answer[:2] != b"ok" and answer != b"none":
                 raise Stop(refusal(lines[answers.index(answer)], answer))
-        moves = self.channel.read_moves(self.told, self.channel.size())
+        moves = self.channel.new_moves(self.told)
         self.told += len(moves)
         self.known.replay(moves)
         return answers[-1]
 
     def keep_house(self, line: str) -> None:
         """A line that is due."""
-        if line == "look":
-            assert self.look_at
-            self.look_at(self)
+        if line == LOOK:
+            assert self.manager
+            self.manager.look(self)
             return
         self.post(line.encode("ascii"))
         self.why[line.split(" ")[0]] += 1
         if line.startswith("age "):
             self.known.age(int(line[4:]))
-            self.step = FEWEST
+            self.known.step = FEWEST
         else:
             self.sync()
 
+    # what a manager asks
+
     def counts(self) -> list[int]:
-        """What `counts` answers now."""
+        """The numbers of `counts`, in their order."""
         self.post(b"counts")
-        return [int(word) for word in self.sync().split(b" ")[1:]]
+        self.why["counts"] += 1
+        answer = self.sync()
+        self.known.stirred = False
+        return [int(word) for word in answer.split(b" ")[1:]]
+
+    def stirred(self) -> bool:
+        """Whether a page frame went from one list to another since the last `counts`."""
+        self.sync()
+        return self.known.stirred
+
+    def working_sets(self) -> list[tuple[int, int, int]]:
+        """The number of each process, how many pages its working set has, and its minimum."""
+        self.sync()
+        return [
+            (pid, self.known.valid[pid], self.setup.limits(name)[0])
+            for pid, name in enumerate(self.trace.processes[: len(self.layouts)], 1)
+        ]
 
     # places
 
@@ -352,23 +365,14 @@ class Filter:
         return self.references - start
 
     def segment(self, codes: Codes) -> None:
-        at, end = 0, len(codes)
         start = self.references
-        while at < end:
-            part = codes[at : at + self.step]
-            loud = np.flatnonzero(self.known.view.take(part))
-            for index, code in zip(loud.tolist(), part[loud].tolist()):
-                if self.known.loud[code]:
-                    self.references = start + at + index
-                    if self.keep(code):
-                        # a page went, and is among those that seemed to change nothing
-                        at += index + 1
-                        self.step = max(FEWEST, min(MOST, 2 * (index + 1)))
-                        break
-            else:
-                at += len(part)
-                self.step = min(2 * self.step, MOST)
-            self.references = start + at
+
+        def keep(place: int, code: int) -> bool:
+            self.references = start + place
+            return self.keep(code)
+
+        self.known.go(codes, keep)
+        self.references = start + len(codes)
 
     def keep(self, code: int) -> bool:
         """Gives a reference to the machine; whether a page went for it."""
