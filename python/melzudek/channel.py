@@ -34,11 +34,12 @@ OPEN: weakref.WeakSet[Channel] = weakref.WeakSet()
 class Channel:
     """A running `mmsim run`.
 
-    `moves` is where the log is written, a file of its own that is gone with the channel by default.
+    `moves` is where the log is written, a file of its own that is gone with the channel by default;
+    `program` is mmsim, found by melzudek.programs by default.
     """
 
-    def __init__(self, moves: IO[bytes] | None = None) -> None:
-        command = [programs.find("mmsim"), "run"]
+    def __init__(self, moves: IO[bytes] | None = None, program: str | None = None) -> None:
+        command = [program or programs.find("mmsim"), "run"]
         self.log = moves or tempfile.TemporaryFile()
         self.moves = self.log.fileno()
         # a session of its own: Ctrl-C at a terminal is for this program, not for the simulator

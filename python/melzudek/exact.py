@@ -15,8 +15,8 @@ from __future__ import annotations
 import subprocess
 from collections import Counter
 from collections.abc import Callable, Mapping
-from dataclasses import dataclass, field
-from typing import BinaryIO
+from dataclasses import dataclass, field, replace
+from typing import BinaryIO, Protocol
 
 import numpy as np
 
@@ -36,6 +36,16 @@ KINDS = 1 << KIND_BITS
 PIECE_BITS = 4  # a file is mapped in pieces of 16 pages, a granule
 LOOK = "look"  # in place of a line: the manager's turn
 Limits = Mapping[str, int]
+
+
+class Script(Protocol):
+    """Where a script is written to."""
+
+    def write(self, text: bytes, /) -> object:
+        ...
+
+    def flush(self) -> None:
+        ...
 
 
 class Stop(Exception):
@@ -72,6 +82,10 @@ class Setup:
                     f"a working set of {least:,} to {most:,} pages is none: the minimum is not"
                     " above the maximum, and that is 1 to 65,536"
                 )
+
+    def having(self, **more: int) -> Setup:
+        """The same with other numbers."""
+        return replace(self, **more)
 
     def limits(self, name: str) -> tuple[int, int]:
         least = self.minimum.get(name, self.minimum.get("", 0))
@@ -184,18 +198,21 @@ class Known(Search):
 class Filter:
     """Drives a machine by references, and writes the script that it was given.
 
-    With `whole` nothing is left out. With `rules` a manager looks after the machine.
+    With `whole` nothing is left out. With `rules` a manager looks after the machine. `moves` and
+    `program` are those of a Channel.
     """
 
     def __init__(
         self,
-        to: BinaryIO,
+        to: Script,
         pages: Pages,
         setup: Setup,
         *,
         blocks: int = 0,
         whole: bool = False,
         rules: Rules | None = None,
+        moves: BinaryIO | None = None,
+        program: str | None = None,
     ) -> None:
         self.to = to
         self.trace = pages
@@ -217,7 +234,8 @@ class Filter:
         self.lines = self.references = 0
         self.why: Counter[str] = Counter()
         self.reason = ""  # why it stopped
-        self.channel = Channel()
+        self.is_full = False  # whether that is the number of lines
+        self.channel = Channel(moves, program)
         self.post(b"machine %d %d %d %d" % (setup.frames, setup.slots, setup.depth, blocks))
 
     # lines
@@ -226,6 +244,7 @@ class Filter:
         """A line that moves nothing that is not known: it may wait."""
         if self.lines == self.setup.lines:
             most = "mmsim takes no more" if self.lines == MOST_LINES else "no more were asked for"
+            self.is_full = True
             raise Stop(f"the script has {self.lines:,} lines, and {most}")
         if self.size + len(line) >= BATCH:
             self.sync()
@@ -401,6 +420,14 @@ class Filter:
             self.reason = self.reason or str(stop)
         self.to.flush()
         self.channel.close()
+
+    def close(self) -> None:
+        """Lets the log go."""
+        self.channel.log.close()
+
+    def disordered(self) -> int:
+        """How many windows of 1 MiB could not keep their order, so that ties go another way."""
+        return sum(layout.disordered for layout in self.layouts)
 
     def log(self) -> BinaryIO:
         """The log, from its beginning."""

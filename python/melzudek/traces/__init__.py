@@ -4,22 +4,21 @@ from __future__ import annotations
 
 import io
 from collections.abc import Iterator
-from typing import BinaryIO
 
 from ..errors import Mistake
-from .base import BadLine, Chunk, Codes, Format, Pages, Place
+from .base import BadLine, Chunk, Codes, Format, Pages, Place, Source
 from .lackey import Lackey
 from .memtrace import Memtrace
 from .perf import Perf
 from .pin import Pin
 from .table import Csv
 
-__all__ = ["FORMATS", "BadLine", "Chunk", "Codes", "Format", "Pages", "Place", "read"]
+__all__ = ["FORMATS", "BadLine", "Chunk", "Codes", "Format", "Pages", "Place", "Source", "read"]
 
 FORMATS: dict[str, type[Format]] = {it.name: it for it in (Lackey, Pin, Csv, Memtrace, Perf)}
 
 
-def read(source: BinaryIO, name: str, pages: Pages) -> Iterator[Chunk]:
+def read(source: Source, name: str, pages: Pages) -> Iterator[Chunk]:
     """The references of a trace in this format, many at a time.
 
     Mistake, in one sentence, where a line is none, where the trace has no reference, and where the
@@ -31,7 +30,7 @@ def read(source: BinaryIO, name: str, pages: Pages) -> Iterator[Chunk]:
     form = FORMATS[name](pages)
     some = False
     try:
-        for chunk in form.read(head):  # type: ignore[arg-type]
+        for chunk in form.read(head):
             if chunk.codes.size:
                 some = True
                 yield chunk
@@ -45,7 +44,7 @@ def read(source: BinaryIO, name: str, pages: Pages) -> Iterator[Chunk]:
 class Head:
     """A source that remembers how it began."""
 
-    def __init__(self, source: BinaryIO) -> None:
+    def __init__(self, source: Source) -> None:
         self.source = source
         self.first = b""
 

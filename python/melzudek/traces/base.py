@@ -8,7 +8,7 @@ from __future__ import annotations
 
 import re
 from collections.abc import Iterator
-from typing import BinaryIO, ClassVar, NamedTuple
+from typing import ClassVar, NamedTuple, Protocol
 
 from ..errors import Mistake
 from ..libraries import require
@@ -27,6 +27,13 @@ LONGEST_LINE = 1 << 12
 MOST_KEPT = 1 << 18  # lines whose meaning is kept
 Codes = npt.NDArray[np.int64]
 Times = npt.NDArray[np.float64]
+
+
+class Source(Protocol):
+    """What a trace is read from."""
+
+    def read(self, size: int, /) -> bytes:
+        """At most so many bytes, none at the end."""
 
 
 class BadLine(Mistake):
@@ -123,7 +130,7 @@ class Format:
         self.pages = pages
         self.lines = 0  # before the chunk at hand
 
-    def read(self, source: BinaryIO) -> Iterator[Chunk]:
+    def read(self, source: Source) -> Iterator[Chunk]:
         """The references of a trace, many at a time; BadLine at a line that is none."""
         rest = b""
         while piece := source.read(CHUNK):
