@@ -6,22 +6,33 @@ The live machine needs the standard library alone. What needs more is imported w
 from __future__ import annotations
 
 import importlib
+from typing import TYPE_CHECKING
 
 from .errors import Busy, DeviceFault, Ended, Full, Mistake, Missing, Raised, Refused
 from .machine import Charge, Counts, Handle, Machine, Pending, Process, Region, Stack, Thread
 from .names import ERROR, FILE_MAP, MEM, PAGE, SEC, STATUS
 
+if TYPE_CHECKING:
+    from .comparison import compare
+    from .costs import Costs
+    from .sweeps import sweep
+    from .tables import load, run
+
 # What is asked for later, with the module that has it. A module in this table has another name than
 # what it gives: else importing it would put the module in the place of the function.
-LATER: dict[str, str] = {}
+LATER: dict[str, str] = {
+    "compare": "comparison",
+    "Costs": "costs",
+    "load": "tables",
+    "run": "tables",
+    "sweep": "sweeps",
+}
 
-__all__ = [
-    *("Machine", "Process", "Thread", "Handle", "Pending"),
-    *("Region", "Stack", "Charge", "Counts"),
-    *("PAGE", "MEM", "SEC", "FILE_MAP", "ERROR", "STATUS"),
-    *("Refused", "Raised", "Busy", "Full", "DeviceFault", "Ended", "Mistake", "Missing"),
-    *LATER,
-]
+__all__ = ["Machine", "Process", "Thread", "Handle", "Pending"]
+__all__ += ["Region", "Stack", "Charge", "Counts"]
+__all__ += ["PAGE", "MEM", "SEC", "FILE_MAP", "ERROR", "STATUS"]
+__all__ += ["Refused", "Raised", "Busy", "Full", "DeviceFault", "Ended", "Mistake", "Missing"]
+__all__ += ["run", "load", "sweep", "compare", "Costs"]
 
 
 def __getattr__(name: str) -> object:

@@ -21,6 +21,7 @@ from .scripts import Value, processes, read_script
 Words = argparse.Namespace
 RANGE = re.compile(r"([0-9]+)\.\.([0-9]+)(?:\.\.([1-9][0-9]*))?")
 INTERRUPTED = 130
+PICTURES = ("pages", "lists", "charge")  # of one run
 
 
 class Parser(argparse.ArgumentParser):
@@ -83,6 +84,13 @@ def share(text: str) -> tuple[int, int]:
     return int(found[1]), int(found[2])
 
 
+def weights(text: str) -> Any:
+    """A type of argparse for costs, whose Mistake is told like any other."""
+    from .costs import Costs
+
+    return Costs.parse(text)
+
+
 def opened(name: str) -> Any:
     """A run that was saved in a folder, or that of a script, which is run now."""
     from .tables import load, run
@@ -107,13 +115,16 @@ def add_run(parser: argparse.ArgumentParser) -> None:
     add("--into", metavar="FOLDER", help="where script.mm, answers.out and moves.log are kept")
     tables = ("answers", "moves", "events", "counts", "faults", "pages")
     add("--table", choices=tables, help="writes a table as csv in place of the summary")
-    add("--costs", metavar="NAME=TIME,..", help="what faults cost, as hard=100us,reference=1ns")
-    kinds = ("pages", "lists", "charge")
-    add("--picture", nargs=2, metavar=("WHAT", "FILE"), help=f"WHAT is {', '.join(kinds)}")
+    text = "what faults cost, as hard=100us,reference=1ns"
+    add("--costs", type=weights, metavar="NAME=TIME,..", help=text)
+    text = f"WHAT is {', '.join(PICTURES)}"
+    add("--picture", nargs=2, metavar=("WHAT", "FILE"), help=text)
     add("--process", type=number(1, 64), default=1, help="whose pages are drawn (1)")
 
 
 def do_run(given: Words) -> None:
+    if given.picture and given.picture[0] not in PICTURES:
+        raise Mistake(f"there is no picture `{given.picture[0]}`: {', '.join(PICTURES)}")
     one = opened(given.script)
     if given.into:
         one.save(given.into)
@@ -132,8 +143,8 @@ def write_table(one: Any, name: str) -> None:
     table.to_csv(sys.stdout, index=name == "answers")
 
 
-def summarise(one: Any, weights: str | None) -> None:
-    from .costs import Costs, told
+def summarise(one: Any, costs: Any) -> None:
+    from .costs import told
 
     results = one.answers["result"].value_counts()
     said = ", ".join(f"{count:,} {word}" for word, count in results.items() if count)
@@ -142,22 +153,19 @@ def summarise(one: Any, weights: str | None) -> None:
     if processes(one.lines) > 1:
         table = one.faults.groupby(["process", "fault"]).size().unstack(fill_value=0)
         print(table.reset_index().rename_axis(columns=None).to_string(index=False))
-    if weights:
-        print(told(Costs.parse(weights), one.count))
+    if costs:
+        print(told(costs, one.count))
 
 
 def picture_of(one: Any, what: str, file: str, process: int) -> None:
     from . import pictures
 
-    title = Path(one.script).name
     if what == "pages":
         made = pictures.pages(one, process, f"Pages of process {process}")
     elif what == "lists":
         made = pictures.lists(one, "Page frames by list")
-    elif what == "charge":
-        made = pictures.charge(one, "Commit charge and limit")
     else:
-        raise Mistake(f"there is no picture `{what}` of {title}: pages, lists or charge")
+        made = pictures.charge(one, "Commit charge and limit")
     made.save(file)
 
 
@@ -180,7 +188,8 @@ def add_sweep(parser: argparse.ArgumentParser) -> None:
     add("--scheduler", metavar="tcp://HOST:PORT", help="a scheduler of Dask that runs")
     workers = "processes of this machine, without a scheduler (as many as there are processors)"
     add("--workers", type=number(1, 1024), metavar="N", help=workers)
-    add("--costs", metavar="NAME=TIME,..", help="adds the effective access time to the table")
+    text = "adds the effective access time to the table, and draws it"
+    add("--costs", type=weights, metavar="NAME=TIME,..", help=text)
     add("--picture", metavar="FILE", help="a curve for each combination of the other names")
     add("--across", metavar="NAME", help="what goes from left to right in it (the first of --vary)")
     add("--up", metavar="COUNT", default="hard", help="what goes up in it (hard)")
@@ -232,7 +241,6 @@ def finish_sweep(
     """The rows in order as a table on the screen, and as a picture."""
     import pandas
 
-    from .costs import Costs
     from .pictures import curves
 
     table = pandas.read_csv(to) if to else pandas.DataFrame(rows)
@@ -241,15 +249,15 @@ def finish_sweep(
     reason = table.pop("reason") if "reason" in table.columns else pandas.Series(dtype=str)
     table = table.convert_dtypes()  # a row without counts makes no fraction of the others'
     if given.costs and "references" in table.columns:
-        table["effective ns"] = Costs.parse(given.costs).effective(table).round(1)
+        table["effective ns"] = given.costs.effective(table).round(1)
     if reason.notna().any() and (reason != "").any():
         table["reason"] = reason.fillna("")
     print_table(table.sort_values(names).astype(object).fillna(""))
     if given.picture:
         across = given.across or names[0]
         by = [name for name in names if name != across and table[name].nunique() > 1]
-        costs = Costs.parse(given.costs) if given.costs else None
-        curves(table, across, given.up, by, costs=costs, title=given.title).save(given.picture)
+        drawn = curves(table, across, given.up, by, costs=given.costs, title=given.title)
+        drawn.save(given.picture)
 
 
 # ---------------------------------------------------------------- compare
@@ -347,8 +355,8 @@ def parser() -> Parser:
 
 def main(arguments: Sequence[str] | None = None) -> int:
     """Does what the words say, and gives the status."""
-    given = parser().parse_args(arguments)
     try:
+        given = parser().parse_args(arguments)
         status = given.do(given)
         sys.stdout.flush()
         return status or 0

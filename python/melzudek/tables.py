@@ -280,9 +280,10 @@ def move_columns(part: Any, at: Any) -> Any:
     move, first, second = part["0"], part["1"], part["2"]
     framed = move.isin(IN_FRAME)
     key = first.where(move.isin(["add", "drop"]), second.where(move.isin(WITH_KEY), ""))
-    place = second.where(move == "map", first.where(move == "unmap", "")).str.partition(".")
+    place = second.where(move == "map", first.where(move == "unmap", ""))
+    pair = place.astype(str).str.extract(r"([0-9]+)\.([0-9]+)").fillna("")
     has_process = at["2"].isin(["process", "unbind", "access", "thread", "trim"])
-    rest = second.where(move.isin(["add", "write"]), "") + " " + part["3"]
+    rest = second.where(move.isin(["add", "write"]), "").astype(str) + " " + part["3"].astype(str)
     columns = {
         "line": at["1"].astype("int64"),
         "kind": at["2"],
@@ -290,9 +291,9 @@ def move_columns(part: Any, at: Any) -> Any:
         "move": move,
         "frame": whole(first.where(framed, "")),
         "key": key,
-        "of": whole(place[0]),
-        "page": whole(place[2]),
-        "rest": rest.str.strip(),
+        "of": whole(pair[0]),
+        "page": whole(pair[1]),
+        "rest": rest.astype(str).str.strip(),
     }
     return pandas.DataFrame(columns)
 
