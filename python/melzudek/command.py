@@ -15,6 +15,7 @@ from dataclasses import dataclass
 from pathlib import Path
 from typing import Any, NoReturn
 
+from .command_traces import add_manage, add_trace, do_manage, do_trace
 from .errors import Answered, Ended, Mistake
 from .scripts import Value, processes, read_script
 
@@ -315,6 +316,13 @@ PARTS = (
         do_run,
     ),
     Part(
+        "trace",
+        "runs a trace of memory references on machines, and writes the script of each",
+        "melzudek trace csv examples/two-processes.csv --frames 24,48 --age 16 --to two.mm",
+        add_trace,
+        do_trace,
+    ),
+    Part(
         "sweep",
         "runs a script on many machines, and gives a row of counts for each",
         "melzudek sweep examples/sort.mm --vary frames=64,96,128 age=16,64 --picture sort.svg",
@@ -327,6 +335,13 @@ PARTS = (
         "melzudek compare one.mm other.mm --picture both.svg",
         add_compare,
         do_compare,
+    ),
+    Part(
+        "manage",
+        "as trace, with a manager that ages, trims, writes and zeroes when page frames run short",
+        "melzudek manage csv examples/two-processes.csv --frames 48 --every 64 --low 0,4,8",
+        add_manage,
+        do_manage,
     ),
     Part(
         "page",
