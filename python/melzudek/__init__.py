@@ -11,6 +11,7 @@ from typing import TYPE_CHECKING
 from .errors import Busy, DeviceFault, Ended, Full, Mistake, Missing, Raised, Refused
 from .machine import Charge, Counts, Handle, Machine, Pending, Process, Region, Stack, Thread
 from .names import ERROR, FILE_MAP, MEM, PAGE, SEC, STATUS
+from .observe import Observations, observe
 
 if TYPE_CHECKING:
     from .comparison import compare
