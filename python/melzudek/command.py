@@ -175,13 +175,17 @@ def picture_of(one: Any, what: str, file: str, process: int) -> None:
 
 def add_sweep(parser: argparse.ArgumentParser) -> None:
     add = parser.add_argument
-    add("script", metavar="SCRIPT", nargs="?", help="a script")
+    add("script", metavar="SCRIPT", nargs="?", help="a script, or with --format a trace")
+    form = "the format of a trace, which each machine takes whole: lackey, pin, csv, memtrace, perf"
+    add("--format", metavar="FORMAT", help=form)
     bulk = "in place of a script: the generated ones of `mmsim bulk SEED COUNT`; vary seed"
     add("--bulk", type=number(1, 100_000), metavar="COUNT", help=bulk)
     vary = "frames, slots, depth, blocks; minimum, maximum (minimum:2 is process 2's); age, trim,"
     vary += " writer, zeroer, io after so many references (N or N:COUNT), in place of the script's"
     text = "NAME=VALUE,.."
     add("--vary", nargs="+", type=several, default=[], metavar=text, help=vary, action="extend")
+    policies = "adds LRU, the optimum, FIFO and Clock on the same references"
+    add("--policies", action="store_true", help=policies)
     add("--refusals", action="store_true", help="lines may be answered otherwise than with `ok`")
     add("--to", metavar="FILE", help="a csv file that gets each row as its machine ends")
     add("--resume", metavar="FILE", help="goes on with a file: leaves out what it has")
@@ -218,6 +222,7 @@ def do_sweep(given: Words) -> int:
             only=given.only,
             scheduler=given.scheduler,
             workers=given.workers,
+            policies=given.policies,
         ):
             rows.append(row)
     except KeyboardInterrupt:
@@ -233,7 +238,21 @@ def source_of(given: Words) -> Any:
 
     if given.bulk:
         return BulkSource(given.bulk)
+    if given.format:
+        return trace_source(given.script, given.format)
     return ScriptSource(read_script(given.script), given.refusals)
+
+
+def trace_source(name: str, form: str) -> Any:
+    """A trace in a file, by its whole path, so that workers find it."""
+    from .traces import FORMATS
+    from .tracing import TraceSource
+
+    if form not in FORMATS:
+        raise Mistake(f"there is no format {form}: formats are {', '.join(FORMATS)}")
+    if not Path(name).is_file():
+        raise Mistake(f"{name} is no file: a sweep reads a trace once for each machine")
+    return TraceSource(str(Path(name).resolve()), form)
 
 
 def finish_sweep(
@@ -243,6 +262,7 @@ def finish_sweep(
     import pandas
 
     from .pictures import curves
+    from .sweeps import POLICIES
 
     table = pandas.read_csv(to) if to else pandas.DataFrame(rows)
     if not len(table):
@@ -257,7 +277,9 @@ def finish_sweep(
     if given.picture:
         across = given.across or names[0]
         by = [name for name in names if name != across and table[name].nunique() > 1]
-        drawn = curves(table, across, given.up, by, costs=given.costs, title=given.title)
+        policies = [name for name in POLICIES if name in table.columns and across == "frames"]
+        named = {"policies": policies, "costs": given.costs, "title": given.title}
+        drawn = curves(table, across, given.up, by, **named)
         drawn.save(given.picture)
 
 

@@ -26,11 +26,12 @@ from typing import IO, Any
 from .classes import FAULTS
 from .errors import Mistake
 from .libraries import require
-from .scripts import Script, Value, read_script
+from .scripts import Script, Value, head, read_script
 from .workers import COUNTS, Row, ScriptSource, Source, packed, row_of, tools, unpacked
 
 RETRIES = 3  # of a task whose worker was lost or whose call of the network failed
 SECONDS = 15  # to find a scheduler, and as many to find a first worker
+POLICIES = ("lru", "optimum", "fifo", "clock")
 Share = tuple[int, int]
 
 
@@ -43,6 +44,7 @@ def sweep(
     only: Share = (1, 1),
     scheduler: str | None = None,
     workers: int | None = None,
+    policies: bool = False,
     progress: bool | None = None,
 ) -> Iterator[Row]:
     """Rows as their machines end, each also written to the file `to`.
@@ -51,18 +53,22 @@ def sweep(
     `minimum:2`, of process 2), `age`, `trim`, `writer`, `zeroer`, `io`, or what a Source has. All
     combinations are run, `only` (i, n) every n-th from the i-th on. With `resume` those that the
     file has are left out. The workers are of the cluster of `scheduler`, or so many processes of
-    this machine (as many as this process has processors). `progress` draws a bar; without a word
-    it does on a terminal. Raises Mistake where a name or the file will not do.
+    this machine (as many as this process has processors). `policies` adds what LRU, the optimum,
+    FIFO and Clock would have on the same references. `progress` draws a bar; without a word it does
+    on a terminal. Raises Mistake where a name or the file will not do.
     """
     require("dask", "distributed", "tqdm")
     made = source if isinstance(source, Source) else ScriptSource(read_script(source))
     machines = grid(vary, made)[only[0] - 1 :: only[1]]
     bundle = packed(made, tools())
-    table = Table(Path(to) if to is not None else None, columns(vary, made), list(vary))
+    beside = policies_of(made, machines) if policies else {}
+    names = columns(vary, made, policies)
+    table = Table(Path(to) if to is not None else None, names, list(vary))
     done = table.open(resume)
     wanted = [it for it in machines if table.key(it) not in done]
     with table, Cluster(scheduler, workers, len(wanted)) as cluster:
-        yield from bar(run_all(cluster, bundle, wanted, table), len(wanted), progress)
+        rows = run_all(cluster, bundle, wanted, table, beside)
+        yield from bar(rows, len(wanted), progress)
 
 
 def grid(vary: Mapping[str, Iterable[Value]], source: Source) -> list[dict[str, Value]]:
@@ -75,10 +81,26 @@ def grid(vary: Mapping[str, Iterable[Value]], source: Source) -> list[dict[str, 
     return [dict(zip(vary, it)) for it in itertools.product(*values)]
 
 
-def columns(vary: Iterable[str], source: Source) -> list[str]:
+def columns(vary: Iterable[str], source: Source, policies: bool = False) -> list[str]:
     """The head line of a sweep's file."""
     own = (f"{fault}:{pid}" for pid in range(1, source.processes() + 1) for fault in FAULTS)
-    return [*vary, *COUNTS, *own, "reason"]
+    return [*vary, *COUNTS, *own, *(POLICIES if policies else ()), "reason"]
+
+
+def policies_of(
+    source: Source, machines: Sequence[Mapping[str, Value]]
+) -> dict[int, dict[str, int]]:
+    """What each policy counts, by the number of page frames; Mistake where it cannot be told."""
+    from . import references
+
+    if isinstance(source, ScriptSource):
+        own = head(list(source.lines[:1])).frames
+        sizes = {int(it.get("frames", own)) for it in machines}
+        return references.of_script(source.lines, sizes) if sizes else {}
+    path, form = getattr(source, "path", None), getattr(source, "form", None)
+    if not path or not form:
+        raise Mistake("policies are computed from the references of a script, or of a trace")
+    return references.of_trace(path, form, {int(it.get("frames", 64)) for it in machines})
 
 
 class Table:
@@ -224,7 +246,11 @@ def package(folder: str) -> str:
 
 
 def run_all(
-    cluster: Cluster, bundle: bytes, machines: Sequence[dict[str, Value]], table: Table
+    cluster: Cluster,
+    bundle: bytes,
+    machines: Sequence[dict[str, Value]],
+    table: Table,
+    beside: Mapping[int, Mapping[str, int]],
 ) -> Iterator[Row]:
     """A task for each machine; the source and the programs are one more, which all of them need.
 
@@ -240,6 +266,8 @@ def run_all(
     tasks = {client.submit(row_of, carried, it, pure=False, retries=RETRIES): it for it in machines}
     for task in dask.as_completed(tasks):
         row = finished(task, tasks[task])
+        if beside and not row.get("reason"):
+            row |= beside[int(row["frames"])] if "frames" in row else next(iter(beside.values()))
         table.add(row)
         yield row
         task.release()
