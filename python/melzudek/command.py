@@ -312,6 +312,33 @@ def do_compare(given: Words) -> int:
     return 0
 
 
+# ---------------------------------------------------------------- observe
+
+
+def add_observe(parser: argparse.ArgumentParser) -> None:
+    add = parser.add_argument
+    add("script", metavar="SCRIPT", help="a script")
+    add("--to", metavar="FILE", help="where the observations are written (standard output)")
+    add("--whole", action="store_true", help="asks for everything after each line: slow, the same")
+    add("--picture", metavar="FILE", help="the commit charge against its limit")
+    add("--title", default="", help="the picture's title")
+
+
+def do_observe(given: Words) -> None:
+    from .observe import observe
+
+    seen = observe(given.script, whole=given.whole)
+    if given.to:
+        with open(given.to, "w", encoding="ascii") as to:
+            seen.write(to)
+    elif not given.picture:
+        seen.write(sys.stdout)
+    if given.picture:
+        from .pictures import charge
+
+        charge(seen, given.title).save(given.picture)
+
+
 # ---------------------------------------------------------------- page
 
 
@@ -319,12 +346,14 @@ def add_page(parser: argparse.ArgumentParser) -> None:
     add = parser.add_argument
     add("script", metavar="SCRIPT", help="a script, or the folder of a saved run")
     add("--to", metavar="FILE", help="the page (the script's name with .html)")
+    text = "with address spaces and the charge, which lines put between are asked for"
+    add("--observe", action="store_true", help=text)
 
 
 def do_page(given: Words) -> None:
     name = Path(given.script)
     to = Path(given.to) if given.to else Path(name.with_suffix(".html").name)
-    page = opened(given.script).page()
+    page = opened(given.script).page(given.observe)
     to.write_bytes(page)
     say(f"{to} is the page, {len(page):,} bytes: open it in a browser")
 
@@ -364,6 +393,13 @@ PARTS = (
         "melzudek manage csv examples/two-processes.csv --frames 48 --every 64 --low 0,4,8",
         add_manage,
         do_manage,
+    ),
+    Part(
+        "observe",
+        "tells the charge and the address spaces of a run, line by line, for the page",
+        "melzudek observe examples/copy-view.mm --picture charge.svg",
+        add_observe,
+        do_observe,
     ),
     Part(
         "page",

@@ -19,6 +19,7 @@ from typing import TYPE_CHECKING, Any
 from .costs import Costs, spelled
 from .errors import Mistake
 from .libraries import require
+from .observe import Observations
 from .page_states import CODES, States, page_states
 from .tables import Run
 
@@ -282,14 +283,18 @@ def charge_table(rows: Any) -> Any:
     """Line, charge and limit from whatever has them."""
     if isinstance(rows, Run):
         rows = rows.counts
-    states = getattr(rows, "states", None)
-    if states is not None:
-        found = [(it.line, it.charge.charged, it.charge.limit) for it in states]
-        return pandas.DataFrame(found, columns=["line", "charge", "limit"])
+    if isinstance(rows, Observations):
+        found = [(it.line, it.charged, it.limit) for it in rows.charges]
+        if found:
+            found.append((rows.lines, *found[-1][1:]))
+        rows = pandas.DataFrame(found, columns=["line", "charge", "limit"])
     table = pandas.DataFrame(rows)
     if not {"line", "charge", "limit"} <= set(table.columns):
         raise Mistake("the rows have no columns line, charge and limit")
-    return table.dropna(subset=["charge", "limit"])
+    table = table.dropna(subset=["charge", "limit"])
+    if not len(table):
+        raise Mistake("no line asks for the charge: `melzudek observe SCRIPT --picture` does")
+    return table
 
 
 def pages(run: Run, process: int = 1, title: str = "") -> Picture:

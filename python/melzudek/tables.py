@@ -27,6 +27,7 @@ from .classes import fault_of, grouped
 from .errors import Ended, Mistake
 from .libraries import require
 from .names import ERROR, STATUS
+from .observe import observe
 from .scripts import ACCESSES, Script, read_script
 
 require("pandas")
@@ -141,9 +142,14 @@ class Run:
     def texts(self) -> tuple[str, str]:
         return str(self.script), str(self.answers_file)
 
-    def page(self) -> bytes:
-        """The page of `mmshow html`, for a browser."""
-        return self.say("html", *self.texts).read()
+    def page(self, observed: bool = False) -> bytes:
+        """The page of `mmshow html`, for a browser; with address spaces where they are asked for."""
+        if not observed:
+            return self.say("html", *self.texts).read()
+        with tempfile.NamedTemporaryFile("w", suffix=".obs") as to:
+            observe(self.lines).write(to)
+            to.flush()
+            return self.say("html", *self.texts, to.name).read()
 
     def words(self, line: int) -> str:
         """A line as `mmshow tell` tells it: its answer, its moves in words, and why."""
@@ -175,7 +181,7 @@ class Run:
         """What mmshow writes for these words; Mistake or TooOld where it cannot."""
         said, status = ask("mmshow", words, self.log)
         if status == 2:
-            raise TooOld(OLD.format(" ".join(word for word in words if word not in self.texts)))
+            raise TooOld(OLD.format(form_of(words)))
         if status:
             last = last_line(said)
             raise Mistake(f"mmshow ends with status {status} on {self.log}: {last}")
@@ -231,6 +237,12 @@ def last_line(said: IO[bytes]) -> str:
     said.seek(0, os.SEEK_END)
     said.seek(max(0, said.tell() - 4096))
     return said.read().decode("latin-1").rstrip("\n").rpartition("\n")[2]
+
+
+def form_of(words: Iterable[str]) -> str:
+    """The words of a form of mmshow, without its files."""
+    kinds = {".mm": "SCRIPT", ".out": "ANSWERS", ".obs": "OBSERVATIONS"}
+    return " ".join(kinds.get(Path(word).suffix, word) for word in words)
 
 
 def windows_name(answer: str) -> str:

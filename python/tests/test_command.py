@@ -27,6 +27,12 @@ def answer(capsys: pytest.CaptureFixture[str], *words: str) -> tuple[int, str, s
     return status, said.out, said.err
 
 
+def only_row(said: str) -> dict[str, str]:
+    """A table of one row by its head."""
+    head, row = (line.split() for line in said.splitlines())
+    return dict(zip(head, row))
+
+
 def test_help_has_an_example_for_each_part(capsys: pytest.CaptureFixture[str]) -> None:
     status, said, _ = answer(capsys, "--help")
     assert status == 0
@@ -78,6 +84,37 @@ def test_compare_and_page(capsys: pytest.CaptureFixture[str], tmp_path: Path) ->
     assert all(file.stat().st_size for file in files)
 
 
+def test_observe(capsys: pytest.CaptureFixture[str], tmp_path: Path) -> None:
+    script, picture, to = EXAMPLES / "copy-view.mm", tmp_path / "charge.svg", tmp_path / "run.obs"
+    status, said, _ = answer(capsys, "observe", str(script))
+    assert status == 0 and {line.split()[1] for line in said.splitlines()} == {"charge", "region"}
+    words = ["observe", str(script), "--to", str(to), "--picture", str(picture)]
+    status, nothing, _ = answer(capsys, *words)
+    assert (status, nothing, to.read_text("ascii")) == (0, "", said) and picture.exists()
+
+
+def test_trace_and_manage(capsys: pytest.CaptureFixture[str], tmp_path: Path) -> None:
+    trace, to = str(EXAMPLES / "two-processes.csv"), tmp_path / "two.mm"
+    status, said, _ = answer(capsys, "trace", "csv", trace, "--frames", "24", "--to", str(to))
+    assert status == 0 and len(said.splitlines()) == 2
+    row = only_row(said)
+    # docs/GUIDE.md has what LRU and the optimum have on these references
+    assert (row["references"], row["lru"], row["optimum"]) == ("800", "300", "252")
+    status, told, _ = answer(capsys, "run", str(to))
+    assert status == 0 and f"{row['hard']} hard" in told
+    words = ["manage", "csv", trace, "--frames", "48", "--every", "64", "--low", "0,8"]
+    table = tmp_path / "rows.csv"
+    status, said, _ = answer(capsys, *words, "--csv", str(table), "--no-policies")
+    assert status == 0 and "never" in said
+    assert [it["low"] for it in csv.DictReader(table.read_text("utf-8").splitlines())] == ["0", "8"]
+    sweep = ["sweep", trace, "--format", "csv", "--vary", "frames=24", "--workers", "1"]
+    status, said, _ = answer(capsys, *sweep, "--policies")
+    again = only_row(said)
+    assert status == 0 and all(
+        again[name] == row[name] for name in ("hard", "zero", "lru", "clock")
+    )
+
+
 @pytest.mark.parametrize(
     ("words", "status", "why"),
     [
@@ -94,6 +131,13 @@ def test_compare_and_page(capsys: pytest.CaptureFixture[str], tmp_path: Path) ->
         (["sweep", TWO, "--vary", "age=8", "age=9"], 1, "melzudek: a name is twice behind --vary"),
         (["sweep", TWO, "--vary", "age=8", "--only", "3/2"], 2, "melzudek sweep: argument --only:"),
         (["compare", TWO, TWO, "--kinds", "cold"], 1, "melzudek: `cold` are no kinds of faults"),
+        (["trace", "csv", "none.csv"], 1, "melzudek: none.csv cannot be read: No such file or dir"),
+        (["trace", "odd", "/dev/null"], 1, "melzudek: there is no format odd: formats are lackey"),
+        (["trace", "csv", "/dev/null"], 1, "melzudek: the trace is empty: it has no reference"),
+        (["trace", "csv", "--frames", "2"], 2, "melzudek trace: argument --frames: no numbers"),
+        (["trace", "csv", "--io", "x"], 2, "melzudek trace: argument --io: `x` is not N, nor"),
+        (["observe", "/dev/null"], 1, "melzudek: /dev/null is no script of mmsim: its first line"),
+        (["sweep", TWO, "--format", "odd", "--vary", "age=8"], 1, "melzudek: there is no format"),
         (["page", PRESSURE, "--to", "/none/p.html"], 1, "melzudek: /none/p.html: No such file"),
     ],
 )

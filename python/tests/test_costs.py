@@ -10,6 +10,7 @@ import pytest
 from melzudek import Mistake, pictures
 from melzudek.comparison import compare
 from melzudek.costs import Costs, spelled, told
+from melzudek.observe import observe
 from melzudek.scripts import read_script, varied
 from melzudek.tables import run
 
@@ -59,6 +60,7 @@ def test_pictures_are_the_same_each_time(tmp_path: Path) -> None:
         assert files[0].read_bytes() == files[1].read_bytes()
     assert pictures.lists(one).drawn("svg").count(b"<path") > 20
     assert pictures.inline(pictures.charge(one)).startswith("<svg")
+    assert pictures.charge(observe(EXAMPLES / "copy-view.mm")).figure.axes[0].lines
     script = read_script(EXAMPLES / "two-processes.mm")
     two = compare(varied(script, {"frames": 24}), varied(script, {"frames": 48}))
     assert two.picture(["hard", "zero"]).drawn("svg") and "<svg" in two._repr_html_()
