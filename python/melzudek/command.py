@@ -7,6 +7,7 @@ is 1; words that are no form of the command end with 2, and an interrupt with 13
 from __future__ import annotations
 
 import argparse
+import contextlib
 import os
 import re
 import sys
@@ -431,17 +432,25 @@ def main(arguments: Sequence[str] | None = None) -> int:
     try:
         given = parser().parse_args(arguments)
         status = given.do(given)
-        sys.stdout.flush()
+        if sys.stdout:  # it is none where it was closed before we began
+            sys.stdout.flush()
         return status or 0
     except BrokenPipeError:
-        os.dup2(os.open(os.devnull, os.O_WRONLY), sys.stdout.fileno())
-        return 1
+        forget_output()
     except KeyboardInterrupt:
         say("interrupted")
         return INTERRUPTED
     except (Mistake, Ended, Answered) as error:
         say(str(error))
     except OSError as error:
+        forget_output()
         name = f"{error.filename}: " if error.filename else ""
         say(f"{name}{error.strerror or error}")
     return 1
+
+
+def forget_output() -> None:
+    """What could not be written is not tried again when the program ends."""
+    if sys.stdout:
+        with contextlib.suppress(OSError, ValueError):
+            os.dup2(os.open(os.devnull, os.O_WRONLY), sys.stdout.fileno())

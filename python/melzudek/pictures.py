@@ -67,7 +67,12 @@ WORDS = {
     "writes": "pages written out",
     "synchronous": "write-outs inside accesses",
     "repurposed": "standby page frames repurposed",
+    "minimum": "minimum of the working sets, in pages",
+    "age": "references of a process from one `age` to the next",
+    "writer": "references from one page that the writer writes to the next",
 }
+WORDS |= {f"hard:{pid}": f"hard faults of process {pid}" for pid in range(1, 65)}
+WORDS |= {f"minimum:{pid}": f"minimum of the working set of process {pid}" for pid in range(1, 65)}
 
 
 class Picture:
@@ -140,26 +145,30 @@ def counted(axes: Any) -> None:
 def curves(
     rows: Any,
     across: str = "frames",
-    up: str = "hard",
+    up: str | Sequence[str] = "hard",
     by: str | Sequence[str] = (),
     *,
     policies: Sequence[str] = (),
     costs: Costs | None = None,
     title: str = "",
 ) -> Picture:
-    """A line for each value of the columns `by`, and one for each column of `policies`.
+    """A line for each column of `up` and each value of the columns `by`, one for each policy.
 
     `rows` are those of a sweep: a table, or a file's name. With `costs` the height is the effective
     access time. Rows without counts are left out.
     """
     table = sweep_table(rows)
-    names = [by] if isinstance(by, str) else list(by)
-    for name in (across, *names, *policies, *(() if costs else (up,))):
+    by = [by] if isinstance(by, str) else list(by)
+    if costs:
+        table = table.assign(cost=costs.effective(table))
+    ups = ["cost"] if costs else [up] if isinstance(up, str) else list(up)
+    for name in (across, *by, *policies, *ups):
         if name not in table.columns:
             raise Mistake(f"the rows have no column {name}: {', '.join(table.columns)}")
     with matplotlib.rc_context(STYLE):
         made, (axes,) = figure()
-        for at, (name, xs, ys) in enumerate(lines_of(table, across, up, names, policies, costs)):
+        lines = [*lines_of(table, across, ups, by), *beside_them(table, across, policies)]
+        for at, (name, xs, ys) in enumerate(lines):
             axes.plot(xs, ys, label=name, **styled(at))
         axes.set_xlabel(WORDS.get(across, across))
         axes.set_title(title)
@@ -169,9 +178,9 @@ def curves(
             axes.set_ylim(bottom=0)
             axes.yaxis.set_major_formatter(FuncFormatter(lambda value, _: spelled(value)))
         else:
-            axes.set_ylabel(WORDS.get(up, up))
+            axes.set_ylabel(WORDS.get(ups[0], ups[0]) if len(ups) == 1 else "")
             counted(axes)
-        if names or policies:
+        if len(lines) > 1:
             axes.legend()
     return Picture(made)
 
@@ -191,23 +200,25 @@ def sweep_table(rows: Any) -> Any:
     return table
 
 
-def lines_of(
-    table: Any,
-    across: str,
-    up: str,
-    by: Sequence[str],
-    policies: Sequence[str],
-    costs: Costs | None,
-) -> Iterator[tuple[str, list[float], list[float]]]:
-    """The name and the points of each line, in order."""
+Line = tuple[str, list[float], list[float]]  # its name, and its points
+
+
+def lines_of(table: Any, across: str, ups: Sequence[str], by: Sequence[str]) -> Iterator[Line]:
+    """A line for each column and each value of the others, in order."""
     grouper = by[0] if len(by) == 1 else list(by)
     groups = table.groupby(grouper) if by else [((), table)]
     for values, part in groups:
         part = part.sort_values(across)
-        heights = costs.effective(part) if costs else part[up]
         several = values if isinstance(values, tuple) else (values,)
-        name = ", ".join(f"{word} {value}" for word, value in zip(by, several))
-        yield name or "simulated", part[across].tolist(), heights.tolist()
+        named = [f"{word} {value}" for word, value in zip(by, several)]
+        for up in ups:
+            words = [*named, WORDS.get(up, up)] if len(ups) > 1 else named
+            name = ", ".join(words) or "simulated"
+            yield name, part[across].tolist(), part[up].tolist()
+
+
+def beside_them(table: Any, across: str, policies: Sequence[str]) -> Iterator[Line]:
+    """A line for each policy, which is the same for all machines of one size."""
     once = table.drop_duplicates(across).sort_values(across)
     for policy in policies:
         yield policy, once[across].tolist(), once[policy].tolist()
