@@ -138,8 +138,7 @@ class Machine:
         self.rows.append(row)
         self.before += made.references
         made.close()
-        if self.file is not sys.stdout.buffer:
-            self.file.close()
+        self.file.close()
 
 
 def trace(
@@ -179,6 +178,9 @@ def trace(
             if whole:
                 whole.take(chunk)
             progress.pass_by(len(chunk.codes), run)
+    if tell:
+        tell(progress.words(run))
+        tell_what_is_special(form, run, tell)
     for machine in run:
         check_names(machine.wanted.setup, pages)
         machine.end()
@@ -186,6 +188,17 @@ def trace(
     if whole:
         add_policies(rows, whole.faults())
     return rows
+
+
+def tell_what_is_special(form: str, run: Sequence[Machine], tell: Callable[[str], None]) -> None:
+    if FORMATS[form].samples:
+        tell("these are samples of the references: LRU and its like cannot be computed from them")
+    moved = max(machine.filter.disordered() for machine in run)
+    if moved:
+        tell(
+            f"{moved:,} MiB of addresses came too late to keep their order: of pages that are"
+            " equally old another one may go than by the program's own addresses"
+        )
 
 
 def add_policies(rows: Iterable[Row], faults: Mapping[int, Mapping[str, int]]) -> None:
@@ -221,7 +234,9 @@ class Scripts:
             if self.to == "-":
                 if part > 1:
                     raise Mistake("standard output has room for one part: name a file")
-                return sys.stdout.buffer
+                if sys.stdout is None:
+                    raise Mistake("standard output is closed: name a file")
+                return os.fdopen(os.dup(sys.stdout.fileno()), "wb")
             return open(self.name(wanted, part), "wb")
 
         return make
@@ -231,6 +246,8 @@ class Scripts:
         path = Path(self.to)
         words = [] if self.only else [str(wanted.row[key]) for key in self.keys]
         words += [str(part)] if part > 1 else []
+        if not words:
+            return path
         return path.with_name("-".join([path.stem, *words]) + (path.suffix or ".mm"))
 
 
@@ -275,7 +292,8 @@ class Progress:
             why = ", ".join(f"{machine.filter.why[it]:,} {it}" for it in WHY)
             text += f"; {machine.wanted.setup.frames:,} page frames: "
             text += f"{machine.filter.lines:,} lines ({why})"
-        return text + (f"; and {len(run) - 3} machines more" if len(run) > 3 else "")
+        more = len(run) - 3
+        return text + (f"; and {more} more machine{'s' * (more > 1)}" if more > 0 else "")
 
 
 class Metered:
