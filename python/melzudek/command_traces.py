@@ -168,6 +168,8 @@ def say(text: str) -> None:
 def source(name: str) -> Iterator[BinaryIO]:
     """The trace's bytes."""
     if name == "-":
+        if sys.stdin is None:
+            raise Mistake("standard input is closed: name the file of a trace")
         yield sys.stdin.buffer
         return
     try:
