@@ -69,7 +69,8 @@ class Layout:
                 wanted.append(low + window - self.windows[at - 1])
             if at < len(self.windows):
                 wanted.append(high - (self.windows[at] - window))
-            wanted.append(low + max(1, (high - low) * 7 // 8))
+            # below all others much room is left for windows that keep their own addresses
+            wanted.append(low + max(1, (high - low) // 2 if at else (high - low) * 7 // 8))
         wanted += free
         return next(it for it in wanted if low < it < high and it not in self.taken)
 
