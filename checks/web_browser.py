@@ -12,6 +12,7 @@ from typing import Any, Dict, List, Optional
 EVENTS = ("Runtime.exceptionThrown", "Runtime.consoleAPICalled", "Log.entryAdded")
 WORDS = ["--headless=new", "--no-sandbox", "--remote-debugging-pipe", "--disable-gpu"]
 WORDS += ["--no-first-run", "--hide-scrollbars", "about:blank"]
+KEYS = {"Enter": 13, "Tab": 9, "Escape": 27, "F6": 117, "ArrowDown": 40}
 
 
 class Trouble(Exception):
@@ -39,6 +40,7 @@ class Page:
         self.session = attached["sessionId"]
         for domain in ("Page", "Runtime", "Log"):
             self.call(f"{domain}.enable")
+        self.call("Emulation.setFocusEmulationEnabled", enabled=True)
         size = {"width": width, "height": height, "deviceScaleFactor": 1, "mobile": width < 600}
         self.call("Emulation.setDeviceMetricsOverride", **size)
         scheme = {"name": "prefers-color-scheme", "value": "dark" if dark else "light"}
@@ -112,12 +114,16 @@ class Page:
         raise Trouble(f"never came: {text[:200]}")
 
     def type(self, text: str) -> None:
-        self.call("Input.insertText", text=text)
+        """Types a text, key by key."""
+        for letter in text:
+            self.call("Input.dispatchKeyEvent", type="char", text=letter)
 
     def press(self, key: str, modifiers: int = 0) -> None:
         """A key, with 2 for Ctrl and 8 for Shift."""
+        said = {"key": key, "code": key, "modifiers": modifiers}
+        said["windowsVirtualKeyCode"] = KEYS[key]
         for kind in ("keyDown", "keyUp"):
-            self.call("Input.dispatchKeyEvent", type=kind, key=key, code=key, modifiers=modifiers)
+            self.call("Input.dispatchKeyEvent", type=kind, **said)
 
     def click(self, x: float, y: float) -> None:
         for kind in ("mousePressed", "mouseReleased"):
@@ -127,6 +133,31 @@ class Page:
     def shot(self, path: str) -> None:
         with open(path, "wb") as file:
             file.write(base64.b64decode(self.call("Page.captureScreenshot", format="png")["data"]))
+
+    def work(self) -> List[int]:
+        """Nanoseconds that the pages' threads ran, and that they waited for a processor."""
+        total = [0, 0]
+        for process in self.renderers():
+            try:
+                with open(f"/proc/{process}/task/{process}/schedstat", encoding="ascii") as file:
+                    ran, waited, _ = map(int, file.read().split())
+            except OSError:
+                continue
+            total = [total[0] + ran, total[1] + waited]
+        return total
+
+    def renderers(self) -> List[int]:
+        """The processes of this browser that hold pages."""
+        found = []
+        for number in filter(str.isdigit, os.listdir("/proc")):
+            try:
+                with open(f"/proc/{number}/cmdline", "rb") as file:
+                    words = file.read()
+            except OSError:
+                continue
+            if b"--type=renderer" in words and self.folder.encode() in words:
+                found.append(int(number))
+        return found
 
     def close(self) -> None:
         try:

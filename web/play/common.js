@@ -4,6 +4,9 @@ const data = JSON.parse(element('data').textContent);
 const clamp = (value, least, most) => Math.max(least, Math.min(most, value));
 const { format: spelled } = new Intl.NumberFormat('en');
 const plural = (count, one, many = one + 's') => `${spelled(count)} ${count === 1 ? one : many}`;
+const linesOf = (text) => (text ? text.replace(/\n$/, '').split('\n') : []);
+// Lets the page draw and hear before what follows.
+const breath = () => new Promise((done) => setTimeout(done, 0));
 
 // An element with its attributes, and texts or elements in it.
 function make(name, attributes, ...inside) {

@@ -168,8 +168,8 @@ function makeEditor({ changed, moved, run }) {
     word: () => placeIn(script.getLine(script.getCursor().line), script.getCursor().ch),
     put(text) {
       line = 0;
-      answers.setValue('');
       script.setValue(text);
+      answers.setValue('\n'.repeat(script.lineCount() - 1));
       script.clearHistory();
       script.scrollTo(0, 0);
       mark(1);

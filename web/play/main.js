@@ -2,6 +2,7 @@
 const AT_EACH_CHANGE = 20000; // lines; above, a run is asked for
 const REST = 120; // milliseconds of rest after a key
 const NARROW = 800; // pixels, up to which one view is seen at a time
+const PIECE = 4000; // lines that are made ready at once
 const LONG = 1500; // lines, from which on the charts wait a little longer
 const first = makeWorker();
 const other = makeWorker(); // for the second machine and its sweep, so that neither waits for them
@@ -41,7 +42,7 @@ async function start() {
     element('run').textContent = 'Stop';
   }, 250);
   try {
-    show(await first.ask('run', { script, wantsPage: true }), performance.now() - busy);
+    await show(await first.ask('run', { script, wantsPage: true }), performance.now() - busy);
   } catch (error) {
     say(error.message === 'stopped' ? 'Stopped.' : 'A program ended early: ' + error.message, 'bad');
   }
@@ -61,39 +62,47 @@ const signOf = (text) => {
   const kind = isWarning ? 'warned' : 'mistake';
   return { line: Number(line), column: Number(column), kind, text: (isWarning ? '\u26a0 ' : '\u2717 ') + reason };
 };
-function textsOf({ answers, written }, signs) {
+// What stands beside each line, made piece by piece, so that the page goes on between.
+async function textsOf({ answers, written }, signs) {
   const texts = Array(lineCount()).fill('');
   const lines = editor.text().split('\n');
-  written.forEach((line, i) => {
-    const answer = answers[i - 1];
-    if (!line || answer === undefined) return;
+  for (let i = 1; i < written.length; i++) {
+    if (i % PIECE === 0) await breath();
+    const [line, answer] = [written[i], answers[i - 1]];
+    if (!line || answer === undefined) continue;
     const keyword = keywordAt(lines[line - 1]);
     const meaning = meaningOf(keyword, answer);
     texts[line - 1] = shortOf(keyword, answer) + (meaning && '  ' + meaning);
-  });
+  }
   for (const { line, text } of signs) texts[line - 1] = text + (texts[line - 1] && '  ' + texts[line - 1]);
   return texts;
 }
-const keywordAt = (line) => keywordOf((line.match(/[A-Za-z]+/) ?? [''])[0]) ?? '';
+const keywordAt = (line = '') => keywordOf((line.match(/[A-Za-z]+/) ?? [''])[0]) ?? '';
 
-function show(said, took) {
+async function show(said, took) {
   const signs = said.told.map(signOf);
+  const isWrong = said.answers === undefined;
   showTold(signs);
-  const isWrong = !said.answers;
   if (isWrong) editor.show(signs);
-  else {
-    run = said;
-    run.lineOf = [];
-    said.written.forEach((line, i) => (run.lineOf[line] = i));
-    editor.show(signs, textsOf(said, signs));
-    frame.show(said.page, lineCount() > LONG ? 700 : 0);
-  }
+  else await showRun(said, signs);
   for (const name of ['frames', 'spaces', 'second']) element(name).classList.toggle('old', isWrong);
   if (isWrong) say(plural(signs.length, 'thing is', 'things are') + ' wrong', 'bad');
   else sayTimes(said, took);
   document.documentElement.dataset.runs = 1 + Number(document.documentElement.dataset.runs ?? 0);
   if (!isWrong) handOver();
   showLine(editor.line());
+}
+async function showRun(said, signs) {
+  said.answers = linesOf(said.answers);
+  said.lineOf = [];
+  said.written.forEach((line, i) => (said.lineOf[line] = i));
+  run = said;
+  const texts = await textsOf(said, signs);
+  await breath();
+  // (what was typed meanwhile is run again, and stands at other lines)
+  if (!isStale) editor.show(signs, texts);
+  await breath();
+  frame.show(said.page, lineCount() > LONG ? 700 : 0);
 }
 function sayTimes({ status, answers, took }, whole) {
   const ended = status ? `; ended with status ${status}` : '';
@@ -148,9 +157,9 @@ function showForm() {
   if (!keyword) return;
   const words = formsOf(keyword).map((name, i) => make(i + 1 === place.at ? 'b' : 'span', {}, name));
   const parts = words.flatMap((word, i) => (i ? [', ', word] : [word]));
-  const isCall = CALLS[Object.keys(CALLS).find((call) => call.toLowerCase() === place.first.toLowerCase())];
+  const isCall = place.first.toLowerCase() !== keyword;
   const call = CALL_OF[keyword];
-  const also = call ? (isCall ? `  = ${keyword}` : `  = ${call}`) : '';
+  const also = call ? `  = ${isCall ? keyword : call}` : '';
   element('form').replaceChildren(make('code', {}, make('strong', {}, place.first), '(', ...parts, ')'), make('span', { class: 'quiet' }, also));
   element('help').querySelector('div').innerHTML = data.help.texts[keyword] ?? '';
   element('help').querySelector('summary').textContent = `The rule of ${place.first}`;

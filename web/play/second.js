@@ -82,6 +82,7 @@ function makeSecond({ runs, section, current, choose, parted }) {
       isWanted = false;
       try {
         said = await runs.ask('compare', { machine: machine() });
+        said.answers = linesOf(said.answers);
         showParting();
         drawLines();
         showGained();
@@ -207,7 +208,7 @@ function makeSecond({ runs, section, current, choose, parted }) {
     if (current().answers.length <= SWEEP_AT_ONCE) startSweep();
     else stopSweep();
   }
-  return { update, close: () => (stopSweep(), parted([])) };
+  return { update, machine, close: () => (stopSweep(), parted([])) };
 }
 // The ends first, then what lies between: a curve is seen early.
 function halving(list) {

@@ -79,11 +79,11 @@ const CALL_OF = Object.fromEntries(Object.entries(CALLS).map(([call, word]) => [
 
 // A keyword's arguments, from the rules: 'alloc <pid> <addr>' gives ['pid', 'addr'].
 const formsOf = (word) => data.help.forms[word] ?? [];
-const keywordOf = (word) => {
-  const call = Object.keys(CALLS).find((name) => name.toLowerCase() === word.toLowerCase());
-  const keyword = call ? CALLS[call] : word.toLowerCase();
-  return data.help.forms[keyword] ? keyword : null;
-};
+const KEYWORDS = new Map([
+  ...Object.keys(data.help.forms).map((word) => [word, word]),
+  ...Object.entries(CALLS).map(([call, word]) => [call.toLowerCase(), word]),
+]);
+const keywordOf = (word) => KEYWORDS.get(word.toLowerCase()) ?? null;
 
 function sizeOf(bytes) {
   if (bytes && bytes % 2 ** 20 === 0) return bytes / 2 ** 20 + ' M';

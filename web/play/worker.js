@@ -73,8 +73,8 @@ const ASKS = {
     const page = wantsPage ? ASKS.page({}) : {};
     times.push(performance.now());
     const took = times.slice(1).map((time, i) => time - times[i]);
-    const answers = linesOf(textOf(run.out));
-    return { ...page, status: run.status, told, written, answers, took, logSize: run.err.length };
+    const answers = textOf(run.out);
+    return { ...page, status: run.status, told, written: Int32Array.from(written), answers, took };
   },
   page() {
     const files = { script: last.plain, answers: last.answers };
@@ -126,7 +126,7 @@ const ASKS = {
     const { faults, text } = faultsOf(textOf(other.err));
     const mine = last.faults;
     const moved = mine.text.findIndex((moves, line) => line > 1 && moves !== text[line]);
-    const answers = linesOf(textOf(other.out));
+    const answers = textOf(other.out);
     return { status: other.status, answers, mine: mine.faults, other: faults, moved };
   },
   // Sums of one machine, for a sweep.
