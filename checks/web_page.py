@@ -195,6 +195,19 @@ class Checks:
         finally:
             again.close()
 
+    def files(self, page: Page) -> None:
+        """What is saved is the run; a file that is dropped in is run."""
+        self.after(page, "putExample('hard-fault')")
+        wanted = self.natively(page.js("data.examples.find(({ name }) => name === 'hard-fault').script"))
+        page.js(CATCH_SAVED)
+        parts = {"script.mm": "plain", "answers.out": "answers", "moves.log": "log", "page.html": "page"}
+        for name, part in parts.items():
+            page.js(f"(element('save').value = {json.dumps(name)}, element('save').onchange())")
+            page.wait(f"globalThis.saved[{json.dumps(name)}] !== undefined", 20)
+            self.same(f"saved: {name}", page.js(f"globalThis.saved[{json.dumps(name)}]"), wanted[part])
+        self.after(page, DROP)
+        self.same("a dropped file", page.js("[editor.text(), run.answers[0]]"), ["machine 9 1 1 0\n", "ok 6"])
+
     def second(self, page: Page) -> None:
         """A second machine: answers, faults and where they part, against native runs."""
         self.after(page, "(view('second'), putExample('under-pressure'))")
@@ -279,6 +292,16 @@ class Checks:
                 page.close()
 
 
+CATCH_SAVED = (
+    "globalThis.saved = {}, URL.createObjectURL = (blob) => (globalThis.blob = blob, 'blob:none'),"
+    " HTMLAnchorElement.prototype.click = function () { const name = this.download;"
+    " globalThis.blob.text().then((text) => (globalThis.saved[name] = text)); }, 1"
+)
+DROP = (
+    "(() => { const dataTransfer = new DataTransfer();"
+    " dataTransfer.items.add(new File(['machine 9 1 1 0\\n'], 'a.mm'));"
+    " dispatchEvent(new DragEvent('drop', { dataTransfer, bubbles: true })); })()"
+)
 SET_SLIDER = (
     "((name, value) => { const it = document.querySelector(`[type=number][data-name=${name}]`);"
     " it.value = value; it.dispatchEvent(new Event('input', { bubbles: true })); })('%s', %d)"
@@ -335,7 +358,7 @@ def check(path: str, native: Any, top: str, install: Callable) -> Tuple[int, int
         return 0, 0
     checks = Checks(f"file://{os.path.abspath(path)}", browser, native, top)
     whole = [checks.examples, checks.spaces, checks.mistakes, checks.typing, checks.linked]
-    whole += [checks.share, checks.second, checks.stop, checks.long]
+    whole += [checks.share, checks.files, checks.second, checks.stop, checks.long]
     for one in whole:
         run_one(checks, one)
     for other in (checks.policy, checks.sizes):

@@ -206,8 +206,10 @@ function putExample(name) {
 function putText(text) {
   element('examples').value = '';
   element('lesson').hidden = true;
+  if (!placeOf().script) history.replaceState(null, '', ' ');
   editor.put(text.replace(/\r\n/g, '\n'));
 }
+element('examples').append(make('option', { value: '', hidden: true }, 'A script of your own'));
 element('examples').append(...groupsOf(data.examples));
 function groupsOf(examples) {
   const groups = new Map();
