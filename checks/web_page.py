@@ -1,0 +1,388 @@
+"""The page of the programs, in a headless Chromium: the part of checks/web.py that needs a browser.
+
+Each check gives the number of things that it compared, and raises Trouble, or tells of what differs.
+"""
+
+import json
+import os
+import re
+import tempfile
+import time
+from typing import Any, Callable, Dict, List, Tuple
+
+from web_browser import Page, Trouble, find_browser
+
+LONGEST_GAP = 200  # milliseconds in which the page's own thread may be busy at once
+LINES = 20_000
+RUNS = "Number(document.documentElement.dataset.runs ?? 0)"
+SHOWN = "!!document.querySelector('iframe.shown')"
+
+
+class Checks:
+    """The checks of one page; `native` runs the native programs."""
+
+    def __init__(self, address: str, browser: str, native: Any, top: str):
+        self.address, self.browser, self.native, self.top = address, browser, native, top
+        self.tried = self.bad = 0
+
+    def same(self, what: str, got: Any, wanted: Any) -> None:
+        self.tried += 1
+        if got != wanted:
+            self.bad += 1
+            print(f"web: {what}: {str(got)[:300]!r}, not {str(wanted)[:300]!r}")
+
+    def holds(self, what: str, is_so: bool) -> None:
+        self.same(what, bool(is_so), True)
+
+    def open(self, place: str = "", **size: Any) -> Page:
+        page = Page(self.browser, **size)
+        page.go(self.address + place)
+        page.wait(f"{RUNS} > 0", 120)
+        return page
+
+    def after(self, page: Page, act: str) -> None:
+        """Does something that leads to a run, and waits for its end."""
+        before = page.js(RUNS)
+        page.js(act)
+        page.wait(f"{RUNS} > {before} && !busy", 120)
+
+    def quiet(self, page: Page, what: str) -> None:
+        said = json.dumps([event["params"] for event in page.events])[:300]
+        self.same(f"{what}: written to the console", said if page.events else "", "")
+
+    # ---- what the native programs say of a written script
+
+    def natively(self, script: str) -> Dict[str, str]:
+        status, plain, told = self.native.run("mmnames", ["lines"], script.encode())
+        _, answers, log = self.native.run("mmsim", ["run"], plain)
+        with tempfile.TemporaryDirectory() as folder:
+            for name, data in (("script", plain), ("answers", answers)):
+                with open(f"{folder}/{name}", "wb") as file:
+                    file.write(data)
+            names = ["script", "answers"]
+            _, page, _ = self.native.run("mmshow", ["html", *names], log, folder)
+            _, tell, _ = self.native.run("mmshow", ["tell", *names], log, folder)
+        texts = {"plain": plain, "answers": answers, "log": log, "page": page, "tell": tell}
+        return {name: data.decode() for name, data in texts.items()} | {"status": str(status)}
+
+    # ---- the checks
+
+    def examples(self, page: Page) -> None:
+        """Each example: answers, log, page and moves in words, as the native programs give them."""
+        page.wait(SHOWN, 60)
+        for it in page.js("data.examples.map(({ name, script }) => ({ name, script }))"):
+            name, script = it["name"], it["script"]
+            wanted = self.natively(script)
+            got = page.js(
+                f"first.ask('run', {{ script: data.examples.find((it) => it.name === {json.dumps(name)}).script, wantsPage: true }})"
+                ".then((said) => first.ask('files').then((files) => ({ ...said, ...files })))"
+            )
+            for part in ("plain", "answers", "log", "page"):
+                self.same(f"{name}: {part}", got[part], wanted[part])
+            self.names(page, name, wanted)
+            if len(wanted["log"]) < 20_000:
+                self.told(page, name, wanted["tell"])
+
+    def told(self, page: Page, name: str, tell: str) -> None:
+        """The moves of each line, in words."""
+        lines: List[List[str]] = []
+        for line in tell.splitlines():
+            if line.startswith(" "):
+                lines[-1].append(line.strip())
+            else:
+                lines.append([])
+        every = "Promise.all([...Array(COUNT).keys()].map((i) => first.ask('tell', { line: i + 1 })))"
+        got = page.js(every.replace("COUNT", str(len(lines))) + ".then((all) => all.map((it) => it.moves))")
+        self.same(f"{name}: moves in words", got, lines)
+
+    def names(self, page: Page, name: str, wanted: Dict[str, str]) -> None:
+        """The names of refusals beside the lines are those that mmshow has behind them."""
+        answers = [it for it in wanted["answers"].splitlines() if re.match("error|raise", it)]
+        got = page.js(f"{json.dumps(answers)}.map((answer) => refusalOf(answer))")
+        for answer, meant in zip(answers, got):
+            if f"{answer} [" in wanted["tell"]:
+                self.holds(f"{name}: {answer} is {meant}", f"{answer} [{meant}]" in wanted["tell"])
+
+    def spaces(self, page: Page) -> None:
+        """The address spaces and the charge behind a line, asked natively at each base that is shown."""
+        for name in ("lab", "under-pressure", "shared-section", "stack-grows"):
+            self.after(page, f"putExample({json.dumps(name)})")
+            plain = page.js("first.ask('files').then(({ plain }) => plain)").splitlines()
+            for line in range(2, len(plain) + 1, 3):
+                got = page.js(f"first.ask('spaces', {{ line: {line} }})")
+                asked = [
+                    f"query {it['pid']} 0x{region['base']:X}"
+                    for it in got["processes"]
+                    for region in it["regions"]
+                ]
+                script = "\n".join([*plain[:line], *asked, "charge", ""])
+                _, out, _ = self.native.run("mmsim", ["run"], script.encode())
+                answers = out.decode().splitlines()[line:]
+                regions = [region for it in got["processes"] for region in it["regions"]]
+                keys = "base allocation allocationProtection size state protection type".split()
+                shown = [" ".join(["ok", *(f"0x{it[key]:08X}" for key in keys)]) for it in regions]
+                shown.append(f"ok {got['charge']} {got['limit']}")
+                self.same(f"{name}: address spaces behind line {line}", shown, answers)
+                ends = [sum(it["regions"][-1][key] for key in ("base", "size")) for it in got["processes"]]
+                self.same(f"{name}: each walk ends at the end", set(ends) - {0x7FFF0000}, set())
+
+    def mistakes(self, page: Page) -> None:
+        """A mistake stands at its line with its reason, and goes when it is mended."""
+        self.after(page, "putText('machine 64 64 4 0\\nprocess 0 32\\n\\nraed 1 0x10000 4\\ncharge\\n')")
+        reason = "no such word 'raed'; is 'read' meant?"
+        row = "[...document.querySelectorAll('#answers .CodeMirror-line')].map((it) => it.textContent)[3]"
+        self.holds("a mistake at its line", reason in page.js(row))
+        self.holds("a mistake below", f"line 4: {reason}" in page.js("element('told').textContent"))
+        sign = "!!editor.script.lineInfo(3).gutterMarkers?.signs"
+        self.holds("a mistake's sign", page.js(sign))
+        self.same("its word", page.js("document.querySelector('.under').textContent"), "raed")
+        self.after(page, "editor.script.replaceRange('read', { line: 3, ch: 0 }, { line: 3, ch: 4 })")
+        self.holds("mended", "raise 0xC0000005" in page.js(row) and not page.js(sign))
+        self.same("nothing is told", page.js("element('told').textContent"), "")
+
+    def typing(self, page: Page) -> None:
+        """Keys: a script that is typed is run; calls and names are completed."""
+        self.after(page, "putText('machine 64 64 4 0\\nprocess 0 32\\n')")
+        page.js("(editor.script.focus(), editor.script.execCommand('goDocEnd'))")
+        page.type("Virt")
+        page.wait("!!document.querySelector('.CodeMirror-hints')", 20)
+        shown = page.js("document.querySelector('.CodeMirror-hints').textContent")
+        self.holds("a call with its arguments", "VirtualAlloc pid, addr, size, type, prot" in shown)
+        page.press("Enter")
+        page.type("(1, 0, 64K, MEM_COM")
+        page.wait("!!document.querySelector('.CodeMirror-hints')", 20)
+        self.holds("a name", "MEM_COMMIT" in page.js("document.querySelector('.CodeMirror-hints').textContent"))
+        page.press("Enter")
+        page.type(", PAGE_READW")
+        page.wait("!!document.querySelector('.CodeMirror-hints')", 20)
+        page.press("Enter")
+        page.type(")")
+        page.wait("run.answers.length === 3 && run.answers[2] === 'ok 0x00010000'", 30)
+        self.same("what was typed", page.js("editor.script.getLine(2)"), "VirtualAlloc(1, 0, 64K, MEM_COMMIT, PAGE_READWRITE)")
+        help_text = page.js("element('help').textContent")
+        self.holds("the rule of its call", "MEM_RESERVE" in help_text and "1455" in help_text)
+        page.press("Tab")
+        self.holds("Tab leaves the editor", not page.js("editor.script.hasFocus()"))
+        page.js("editor.script.focus()")
+        page.press("F6")
+        self.same("F6", page.js("document.activeElement.dataset.view"), "frames")
+
+    def linked(self, page: Page) -> None:
+        """A line that is chosen left is shown right, and the other way round."""
+        self.after(page, "(view('frames'), putExample('lab'))")
+        page.js("editor.choose(32)")
+        page.js("addEventListener('message', ({ data }) => (globalThis.heard = data))")
+        page.wait("run.lineOf[editor.line()] === 20")
+        self.holds("its moves in words", "hard fault" in awaited(page, "element('moves').textContent", "hard fault"))
+        frame = "document.querySelector('iframe').contentWindow"
+        page.js(f"dispatchEvent(new MessageEvent('message', {{ data: {{ melzudek: 'chosen', line: 12 }}, source: {frame} }}))")
+        self.same("chosen right", page.js("editor.line()"), 22)
+        page.js("dispatchEvent(new MessageEvent('message', { data: { melzudek: 'chosen', line: 3 }, source: window }))")
+        self.same("chosen by another window", page.js("editor.line()"), 22)
+
+    def share(self, page: Page) -> None:
+        """Share puts the script into the address; the address opens it again."""
+        script = "machine 16 8 2 0\nprocess 0 8  # \u00e4\nVirtualAlloc(1, 0, 4K, MEM_COMMIT, PAGE_READONLY)\n"
+        self.after(page, f"putText({json.dumps(script)})")
+        page.js("element('share').onclick()")
+        page.wait("location.hash.startsWith('#script=')")
+        place, answers = page.js("location.hash"), page.js("run.answers")
+        again = self.open(place)
+        try:
+            self.same("shared: the script", again.js("editor.text()"), script)
+            self.same("shared: the answers", again.js("run.answers"), answers)
+            self.quiet(again, "a shared script")
+        finally:
+            again.close()
+
+    def files(self, page: Page) -> None:
+        """What is saved is the run; a file that is dropped in is run."""
+        self.after(page, "putExample('hard-fault')")
+        wanted = self.natively(page.js("data.examples.find(({ name }) => name === 'hard-fault').script"))
+        page.js(CATCH_SAVED)
+        parts = {"script.mm": "plain", "answers.out": "answers", "moves.log": "log", "page.html": "page"}
+        for name, part in parts.items():
+            page.js(f"(element('save').value = {json.dumps(name)}, element('save').onchange())")
+            page.wait(f"globalThis.saved[{json.dumps(name)}] !== undefined", 20)
+            self.same(f"saved: {name}", page.js(f"globalThis.saved[{json.dumps(name)}]"), wanted[part])
+        self.after(page, DROP)
+        self.same("a dropped file", page.js("[editor.text(), run.answers[0]]"), ["machine 9 1 1 0\n", "ok 6"])
+
+    def second(self, page: Page) -> None:
+        """A second machine: answers, faults and where they part, against native runs."""
+        self.after(page, "(view('second'), putExample('under-pressure'))")
+        page.wait("!!document.querySelector('[data-name=frames]')", 30)
+        for name, value in (("frames", 8), ("slots", 3), ("most", 2)):
+            page.js(SET_SLIDER % (name, value))
+            got = page.js(ASK_SECOND)
+            plain = page.js("first.ask('files').then(({ plain }) => plain)")
+            script = rewritten(plain, got["machine"])
+            _, out, log = self.native.run("mmsim", ["run"], script.encode())
+            self.same(f"{name} {value}: answers", got["said"]["answers"], out.decode())
+            _, counted, _ = self.native.run("mmlog", ["check"], log)
+            numbers = dict(line.split(" ") for line in counted.decode().splitlines()[1:])
+            sums = {kind: sum(filter(None, got["said"]["other"][kind])) for kind in ("hard", "soft", "zero")}
+            self.same(f"{name} {value}: faults", sums, {kind: int(numbers[kind]) for kind in sums})
+        page.wait("element('parting').textContent.includes('part at line')", 30)
+        page.wait("document.querySelectorAll('#over-frames circle').length > 10", 60)
+        self.holds("curves of both", page.js("document.querySelectorAll('#over-lines path').length === 2"))
+
+    def stop(self, page: Page) -> None:
+        """A long run can be stopped, and the next one goes on as ever."""
+        page.js("view('frames')")
+        page.js(f"putText({json.dumps(bulk_script(60_000))})")
+        self.holds("a long script waits for the button", page.js("!busy"))
+        page.js("void start()")
+        page.wait("element('run').textContent === 'Stop'", 30)
+        page.js("element('run').click()")
+        page.wait("element('status').textContent === 'Stopped.'", 10)
+        self.after(page, "putExample('first')")
+        self.same("the run after", page.js("run.answers[0]"), "ok 2")
+
+    def long(self, page: Page) -> None:
+        """20,000 lines: no gap of the page's thread is too long. Time in which it only waited for a
+        processor does not count; the best of three counts, since other work makes gaps too."""
+        script, best = bulk_script(LINES - 20), 10_000.0
+        page.js(WATCH_GAPS)
+        for _ in range(3):
+            page.js("globalThis.gaps.length = 0")
+            ran, waited = page.work()
+            self.after(page, f"putText({json.dumps(script)})")
+            page.wait(SHOWN, 60)
+            self.after(page, "editor.script.replaceRange('charge\\n', { line: 12000, ch: 0 })")
+            time.sleep(1)
+            ran, waited = [after - before for after, before in zip(page.work(), (ran, waited))]
+            longest = page.js("Math.max(0, ...globalThis.gaps)")
+            best = min(best, longest * ran / max(ran + waited, 1))
+            if best <= LONGEST_GAP:
+                break
+        self.tried += 1
+        if best > LONGEST_GAP:
+            self.bad += 1
+            print(f"web: {LINES} lines: the page's thread was busy for {best:.0f} ms at once")
+
+    def policy(self) -> None:
+        """The page may fetch nothing: a fetch and an image are refused by its policy."""
+        page = self.open()
+        try:
+            refused = "fetch('https://example.org/').then(() => 'fetched', () => 'refused')"
+            self.same("a fetch", page.js(refused), "refused")
+            image = "new Promise((end) => { const it = new Image(); it.onload = () => end('loaded'); it.onerror = () => end('refused'); it.src = 'https://example.org/a.png'; })"
+            self.same("an image", page.js(image), "refused")
+            said = json.dumps(page.events)
+            self.holds("its policy refuses it", "Content Security Policy" in said and "default-src" in said)
+            page.js("1")
+            text = page.js("document.querySelector('meta[http-equiv]').content")
+            self.holds("no source of a network", not re.search(r"https?:|\*|'self'|data:|connect-src", text))
+        finally:
+            page.close()
+
+    def sizes(self) -> None:
+        """A phone, and a dark screen: the page is drawn, and nothing is written to the console."""
+        for what, size in (("a phone", {"width": 390, "height": 800}), ("dark", {"dark": True})):
+            page = self.open(**size)
+            try:
+                wide = page.js("document.documentElement.scrollWidth <= innerWidth")
+                self.holds(f"{what}: no line of the page is wider than the screen", wide)
+                for name in ("spaces", "second", "about", "frames"):
+                    page.js(f"view('{name}')")
+                    self.holds(f"{what}: {name} is seen", page.js(f"element('{name}').offsetWidth > 200"))
+                self.quiet(page, what)
+            finally:
+                page.close()
+
+
+CATCH_SAVED = (
+    "globalThis.saved = {}, URL.createObjectURL = (blob) => (globalThis.blob = blob, 'blob:none'),"
+    " HTMLAnchorElement.prototype.click = function () { const name = this.download;"
+    " globalThis.blob.text().then((text) => (globalThis.saved[name] = text)); }, 1"
+)
+DROP = (
+    "(() => { const dataTransfer = new DataTransfer();"
+    " dataTransfer.items.add(new File(['machine 9 1 1 0\\n'], 'a.mm'));"
+    " dispatchEvent(new DragEvent('drop', { dataTransfer, bubbles: true })); })()"
+)
+SET_SLIDER = (
+    "((name, value) => { const it = document.querySelector(`[type=number][data-name=${name}]`);"
+    " it.value = value; it.dispatchEvent(new Event('input', { bubbles: true })); })('%s', %d)"
+)
+ASK_SECOND = (
+    "(async () => { const machine = second.machine();"
+    " return { machine, said: await other.ask('compare', { machine }) }; })()"
+)
+WATCH_GAPS = (
+    "globalThis.gaps ??= (() => { const list = [];"
+    " new PerformanceObserver((seen) => seen.getEntries().forEach(({ duration }) => list.push(duration)))"
+    ".observe({ entryTypes: ['longtask'] }); return list; })(), 1"
+)
+
+
+def awaited(page: Page, text: str, part: str) -> str:
+    """The value of a text, once it has a part."""
+    page.wait(f"({text}).includes({json.dumps(part)})", 20)
+    return page.js(text)
+
+
+def rewritten(plain: str, machine: Dict[str, Any]) -> str:
+    """The plain script for a second machine, as the page should rewrite it."""
+    lines = []
+    for line in plain.splitlines():
+        words = line.split(" ")
+        if words[0] == "machine":
+            words[1:3] = [str(machine["frames"]), str(machine["slots"])]
+        elif words[0] == "process":
+            most = machine.get("most") or int(words[2])
+            least = machine.get("least")
+            words[1:] = [str(min(int(words[1]) if least is None else least, most)), str(most)]
+        lines.append(" ".join(words))
+    return "\n".join(lines) + "\n"
+
+
+def bulk_script(lines: int) -> str:
+    """A script of so many lines, which page."""
+    head = ["machine 64 512 4 0", "process 0 48", "alloc 1 0 0x80000 0x3000 0x04"]
+    body = [f"write 1 0x{0x10000 + (i * 37 % 128) * 4096:X} {i % 256:02X}" for i in range(lines)]
+    return "\n".join(head + body) + "\n"
+
+
+def check(path: str, native: Any, top: str, install: Callable) -> Tuple[int, int]:
+    """How many things were compared in the browser, and how many are wrong."""
+    if os.environ.get("MELZUDEK_NO_BROWSER") == "1":
+        print("web: the browser is left out, as MELZUDEK_NO_BROWSER=1 says")
+        return 0, 0
+    if not find_browser():
+        install(["chromium"])
+    browser = find_browser()
+    if not browser:
+        print("web: the browser is left out, since chromium cannot be had")
+        return 0, 0
+    checks = Checks(f"file://{os.path.abspath(path)}", browser, native, top)
+    whole = [checks.examples, checks.spaces, checks.mistakes, checks.typing, checks.linked]
+    whole += [checks.share, checks.files, checks.second, checks.stop, checks.long]
+    for one in whole:
+        run_one(checks, one)
+    for other in (checks.policy, checks.sizes):
+        guarded(checks, other)
+    return checks.tried, checks.bad
+
+
+def run_one(checks: Checks, one: Callable[[Page], None]) -> None:
+    """One check on a page of its own."""
+
+    def act() -> None:
+        page = checks.open()
+        try:
+            one(page)
+            checks.quiet(page, one.__name__)
+        finally:
+            page.close()
+
+    guarded(checks, act, one.__name__)
+
+
+def guarded(checks: Checks, act: Callable[[], None], name: str = "") -> None:
+    try:
+        act()
+    except Trouble as trouble:
+        checks.bad += 1
+        print(f"web: {name or act.__name__}: {trouble}")

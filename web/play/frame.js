@@ -1,0 +1,69 @@
+// The page that mmshow writes of the run, in a frame with an origin of its own. A line that is
+// chosen here is told to it, and one that is chosen there is told here, by messages.
+const SETTLED = 300; // milliseconds after a page was drawn
+const LAID_OUT = 20; // milliseconds, so that the page has its width when it first draws
+// A page in a frame has no address of its own to keep its place in; one that takes no messages is
+// given a listener.
+const FRAMED = '<head><script>history.replaceState = () => undefined;<\/script>';
+const LISTENER = `<script>addEventListener('message', ({ data }) => {
+  const number = document.getElementById('number');
+  if (!number || data?.melzudek !== 'line') return;
+  number.value = data.line;
+  number.dispatchEvent(new Event('change', { bubbles: true }));
+});<\/script></body>`;
+function framed(html) {
+  const page = html.replace('<head>', () => FRAMED);
+  return page.includes('melzudek') ? page : page.replace('</body>', () => LISTENER);
+}
+
+function makeFrame(place, chosen) {
+  let shown = '';
+  let line = 0;
+  let waiting;
+  const latest = () => place.querySelector('iframe:last-child');
+  function tell() {
+    if (line) latest()?.contentWindow?.postMessage({ melzudek: 'line', line }, '*');
+  }
+  // (what a new page chooses by itself, before it is told the line, is not taken)
+  addEventListener('message', ({ data: said, source }) => {
+    const frame = latest();
+    const isTold = frame && performance.now() - frame.dataset.told > SETTLED;
+    if (said?.melzudek === 'chosen' && isTold && source === frame.contentWindow) chosen(said.line);
+  });
+  // The old page stays until the new one has been drawn.
+  function put(html) {
+    const old = [...place.querySelectorAll('iframe')];
+    const frame = document.createElement('iframe');
+    frame.sandbox = 'allow-scripts';
+    frame.title = 'The page frames of this run, drawn line by line';
+    frame.style.colorScheme = document.documentElement.style.colorScheme || 'light dark';
+    frame.onload = () => {
+      frame.classList.add('shown');
+      frame.dataset.told = performance.now();
+      old.forEach((it) => it.remove());
+      tell();
+    };
+    place.append(frame);
+    setTimeout(() => (frame.srcdoc = framed(html)), LAID_OUT);
+  }
+  return {
+    // A page is drawn once its place is seen and the typing rests.
+    show(html, rest) {
+      shown = html;
+      clearTimeout(waiting);
+      if (place.offsetWidth) waiting = setTimeout(() => put(html), rest);
+      place.dataset.late = place.offsetWidth ? '' : 'yes';
+    },
+    seen() {
+      if (place.dataset.late) this.show(shown, 0);
+    },
+    again() {
+      if (shown) this.show(shown, 0);
+    },
+    choose(wanted) {
+      line = wanted;
+      tell();
+    },
+    html: () => shown,
+  };
+}
