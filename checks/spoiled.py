@@ -125,6 +125,11 @@ def unfaced(room: Room) -> None:
     raise ValueError("no proof to spoil")
 
 
+def silent(room: Room) -> None:
+    """A check that ends well and says nothing."""
+    (room.top / "checks/words.py").write_text("print()\n", encoding="utf-8")
+
+
 def failing_rt(room: Room) -> None:
     """An `rt` that finds one crate wrong."""
     path = room.bin / "rt"
@@ -137,16 +142,16 @@ ALWAYS_YES = '"$real" "$@"\n[ $? -ne 2 ] || exit 2\nexit 0'
 SPOILS = [
     Spoil("rows", "a stored answer", edited("tests/rows/grow.out", "ok", "ok 1"), "grow: answers"),
     Spoil("rows", "a stored move", edited("examples/hard-fault.log", "soil", "clear"), "moves"),
-    Spoil("rows", "the column of a fault", edited("tests/rows/faults.txt", "19\talloc", "18\talloc"),
-          "alloc 1 0 1 0x3000"),
+    Spoil("rows", "the column of a fault",
+          edited("tests/rows/faults.txt", "19\talloc", "18\talloc"), "alloc 1 0 1 0x3000"),
     Spoil("rows", "a line's answer by prepared.mm",
           edited("tests/rows/lines.txt", "\tok 13 118", "\tok 12 118"), "charge"),
     Spoil("rows", "an mmsim that adds a page to each charge",
           piped("mmsim", "run", r"s/^ok 13 118$/ok 14 118/"), "charge"),
     Spoil("rows", "an mmlog that takes every log", stub("mmlog", ALWAYS_YES), "logs/.*status"),
     Spoil("rows", "the model: a guard that stays on",
-          edited("checks/reference/unpaged.py", "            row.guard = False\n            return GUARD",
-                 "            return GUARD"), "without paging"),
+          edited("checks/reference/unpaged.py", "    row.guard = False\n            return GUARD_HIT",
+                 "    return GUARD_HIT"), "without paging"),
     Spoil("rows", "no mmlog", lambda room: room.lose("mmlog"), "there is no program"),
     Spoil("examples", "an mmshow that always ends with 2", stub("mmshow", "exit 2"), "status"),
     Spoil("examples", "no mmshow", lambda room: room.lose("mmshow"), "there is no program"),
@@ -156,7 +161,8 @@ SPOILS = [
           lambda room: room.add("examples/first.odd", "x\n"), "no check knows"),
     Spoil("examples", "a script that no page prints",
           edited("docs/GUIDE.md", "stack 0 1 0x10000", "stack 0 1 0x20000"), "prints it"),
-    Spoil("words", "a usage line", edited("tests/rows/usage.txt", "faults | sums", "faults"), "mmshow"),
+    Spoil("words", "a usage line",
+          edited("tests/rows/usage.txt", "faults | sums", "faults"), "mmshow"),
     Spoil("words", "an mmlog that knows help",
           stub("mmlog", '[ "$1" != help ] || exit 0\nexec "$real" "$@"'), "mmlog .'help"),
     Spoil("words", "an mmshow without frames above 9",
@@ -166,10 +172,11 @@ SPOILS = [
           piped("mmnames", "''", "s/0xABCDEF09/0xabcdef09/"), "0xabcDEF09"),
     Spoil("names", "what is told of a mistake",
           edited("tests/mistakes/mistakes.txt", "is 'read' meant?", "is 'raed' meant?"), "told"),
-    Spoil("windows", "a verdict", edited("tests/windows/MapViewOfFile.md", "differs; Wine", "agrees; Wine"),
+    Spoil("windows", "a verdict",
+          edited("tests/windows/MapViewOfFile.md", "differs; Wine", "agrees; Wine"),
           "what it says of Windows"),
-    Spoil("windows", "a count", edited("tests/windows/README.md", "| 31 | 22 | 9 |", "| 31 | 23 | 8 |"),
-          "does not say"),
+    Spoil("windows", "a count",
+          edited("tests/windows/README.md", "| 31 | 22 | 9 |", "| 31 | 23 | 8 |"), "does not say"),
     Spoil("windows", "a row that differs and is told nowhere",
           edited("docs/WINDOWS.md", "#unmap-middle", "#unmap-twice"), "unmap"),
     Spoil("hostile", "an mmsim whose faults end with status 0",
@@ -191,14 +198,15 @@ SPOILS = [
     Spoil("show", "an mmshow without the form sums",
           stub("mmshow", '[ "$1" != sums ] || exit 2\nexec "$real" "$@"'), "sums"),
     Spoil("show", "an mmshow that counts hard faults as soft",
-          piped("mmshow", "faults", "s/^1  *all  *[0-9]*/1         all                   99/"), "faults"),
-    Spoil("show", "a reason", edited("tests/rows/show/reasons.txt", "there are 2 file", "there are 3 file"),
-          "by hand"),
+          piped("mmshow", "faults", "s/^\\(1  *all  *\\)[0-9]*/\\199/"), "faults"),
+    Spoil("show", "a reason",
+          edited("tests/rows/show/reasons.txt", "there are 2 file", "there are 3 file"), "by hand"),
     Spoil("faces", "a proof that names a module", unfaced, "names a module"),
     Spoil("prose", "a function in another crate",
           lambda room: room.add("docs/MODEL.md", "\nSee `run_log` of `mm_vad`.\n"), "run_log"),
     Spoil("prose", "a name that nothing declares",
-          lambda room: room.add("README.md", "\nThe call `take_all_pages` does it.\n"), "take_all_pages"),
+          lambda room: room.add("README.md", "\nThe call `take_all_pages` does it.\n"),
+          "take_all_pages"),
     Spoil("prose", "a crate without a row",
           edited("docs/ARCHITECTURE.md", "| `mm_vad` |", "| `mm_wad` |"), "mm_vad"),
     Spoil("documents", "an answer in README.md", edited("README.md", "ok AA", "ok AB"), "README"),
@@ -206,15 +214,16 @@ SPOILS = [
           lambda room: room.add("docs/GUIDE.md", "\n```\nnothing of the kind\n```\n"), "mark it"),
     Spoil("documents", "a number that is made again",
           edited("docs/GUIDE.md", "`large` has 300", "`large` has 301"), "prints '300"),
-    Spoil("documents", "a link", edited("docs/GUIDE.md", "(sort.svg)", "(sorted.svg)"), "leads nowhere"),
+    Spoil("documents", "a link",
+          edited("docs/GUIDE.md", "(sort.svg)", "(sorted.svg)"), "leads nowhere"),
     Spoil("documents", "a command that leaves a file",
           edited("README.md", "2> moves.log > answers.out", "2> moves.log > answers.txt"), "leave"),
-    Spoil("tries", "a form of tools/try", edited("tools/try", '    "probe": ', '    "prob": '), "forms"),
+    Spoil("tries", "a form of tools/try",
+          edited("tools/try", '    "probe": ', '    "prob": '), "forms"),
     Spoil("all hostile", "a check that is missing",
           lambda room: room.remove("checks/hostile.py"), "0 passed, 1 failed"),
     Spoil("all words", "a check that says nothing",
-          lambda room: (room.top / "checks/words.py").write_text("print()\n") and None,
-          "does not say"),
+          silent, "does not say"),
     Spoil("run", "an `rt ci` that fails", failing_rt, "55 passed, 1 failed"),
 ]  # fmt: skip
 
