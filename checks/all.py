@@ -59,8 +59,7 @@ def run_check(name: str, folder: Optional[str]) -> Result:
     env = {**os.environ, "PYTHONDONTWRITEBYTECODE": "1"}
     if folder:
         env["MELZUDEK_BIN"] = os.path.abspath(folder)
-        if path.suffix != ".py":
-            words += [os.path.join(folder, program) for program in BY_PLACE.get(name, ())]
+        words += [os.path.join(folder, program) for program in BY_PLACE.get(name, ())]
     started = subprocess.Popen(words, cwd=TOP, env=env, stdout=subprocess.PIPE, text=True)
     last = ""
     assert started.stdout
