@@ -25,7 +25,7 @@ faces prose rows words examples windows names tries hostile outside drawn show t
 # Checks of parts that need what Debian's packages or the network bring; run where they are there.
 FURTHER = "python wine web".split()
 # Checks that take their programs by place.
-BY_PLACE = {"page": ("mmsim", "mmshow"), "traces": ("mmsim", "mmlog")}
+BY_PLACE = {"page": ("mmsim", "mmshow"), "traces": ("mmsim", "mmlog", "mmshow")}
 MOST_SECONDS = 3600
 COUNT = re.compile(r"(\d+) (?:compared|tried|runs|logs)?[^,]*, (?:0|no) (?:differences|wrong|bad)")
 
@@ -54,12 +54,12 @@ def run_check(name: str, folder: Optional[str]) -> Result:
     if path is None:
         print(f"{name}: there is no checks/{name}.py", flush=True)
         return Result(name, False, "", 0)
-    words = [sys.executable, "-B", str(path)]
-    env = dict(os.environ)
+    # by its first line, as a check may need Debian's Python and its packages
+    words = [str(path)] if os.access(path, os.X_OK) else [sys.executable, str(path)]
+    env = {**os.environ, "PYTHONDONTWRITEBYTECODE": "1"}
     if folder:
         env["MELZUDEK_BIN"] = os.path.abspath(folder)
-        if path.suffix != ".py":
-            words += [os.path.join(folder, program) for program in BY_PLACE.get(name, ())]
+        words += [os.path.join(folder, program) for program in BY_PLACE.get(name, ())]
     started = subprocess.Popen(words, cwd=TOP, env=env, stdout=subprocess.PIPE, text=True)
     last = ""
     assert started.stdout

@@ -15,19 +15,21 @@ from __future__ import annotations
 import argparse
 import concurrent.futures
 import datetime
+import importlib
 import os
 import random
 import re
 import sys
 import zlib
-from typing import Callable, NamedTuple, Optional
+from typing import Any, Callable, NamedTuple, Optional
 
 from common import TOP, begin, run
 
 sys.path.insert(0, str(TOP / "checks/reference"))
 sys.dont_write_bytecode = True
-import life  # noqa: E402
 from unpaged import PAGE, WRITES, Process, Region, World  # noqa: E402
+
+life: Any = importlib.import_module("life")
 
 PROTECTIONS = [1, 2, 4, 4, 4, 8, 8, 0x10, 0x20, 0x40, 0x80, 0x101, 0x102, 0x104, 0x104, 0x108, 3]
 SPOILS = 40

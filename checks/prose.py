@@ -36,7 +36,7 @@ COMMENT = re.compile(r"<!--.*?-->", re.DOTALL)
 # Windows' names, words that a script, a log or a table may have.
 VOCABULARY = set(
     """
-rt antt clang git valgrind callgrind chromium python3 bash sed awk diff paste cmp sort wc grep tee
+sh text rt antt clang git valgrind callgrind chromium python3 bash sed awk diff paste cmp sort wc grep tee
 black mypy apt realloc malloc alloc_zeroed ptr copy_nonoverlapping swap_remove position subst
 Ok Err None Some Option Result Vec Box String Debug Case Error core std_alloc alloc
 true false match let return loop while impl for fn type mut pub use mod where self requires ensures

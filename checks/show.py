@@ -10,27 +10,31 @@ forms are compared again, with the status and the reason why a move is not legal
 tests/rows/show/ has logs by hand with the reason of their last move, and a script by hand with the
 names behind its answers. Then scripts that do not fit, and files that are missing.
 
-checks/reference/README.md says what the references were written from. checks/reference/ledger.py,
+With --few fewer logs are compared, for a quick look. checks/reference/README.md says what the references were written from. checks/reference/ledger.py,
 the second of them, knows nothing of the first: it gives `counts`, `state` and `faults` of 100
 drawn logs.
 """
 
 from __future__ import annotations
 
+import argparse
 import concurrent.futures
+import importlib
 import os
 import random
 import re
 import sys
 import tempfile
-from typing import Iterator, NamedTuple, Optional
+from typing import Any, Iterator, NamedTuple, Optional
 
 from common import TOP, Check, Ended, begin, read, run, table, text
 
 sys.path.insert(0, str(TOP / "checks/reference"))
 sys.dont_write_bytecode = True
 import ledger  # noqa: E402
-import show  # noqa: E402
+
+# (this file has the same name)
+show: Any = importlib.import_module("show")
 
 BULK = [(seed, 40 + seed) for seed in range(1, 201)]
 DRAWN = range(1, 31)
@@ -162,13 +166,14 @@ def complaints(mmshow: str, case: Case) -> tuple[int, list[str]]:
 
 
 def cases(check: Check, room: str) -> Iterator[Case]:
-    """Each log with its name and the files of its script."""
+    """Each log with its name and the files of its script; with --few a tenth of those drawn."""
+    step = 10 if check.words.few else 1
     scripts = {it.stem: it.read_bytes() for it in sorted((TOP / "examples").glob("*.mm"))}
-    scripts.update((f"drawn {seed}", drawn(seed)) for seed in DRAWN)
+    scripts.update((f"drawn {seed}", drawn(seed)) for seed in DRAWN[::step])
     for name, script in scripts.items():
         ended = check.run("mmsim", ["run"], script)
         yield Case(name, ended.err, written(room, name.replace(" ", "-"), script, ended.out))
-    for seed, lines in BULK:
+    for seed, lines in BULK[::step]:
         log = check.run("mmsim", ["bulk", str(seed), str(lines)]).err
         yield Case(f"bulk {seed} {lines}", log, [])
 
@@ -233,7 +238,7 @@ def compare_faults(check: Check) -> None:
 
 def compare_ledgers(check: Check) -> None:
     """The second reader, on drawn logs: `counts`, the state after some lines, and `faults`."""
-    for seed in LEDGERS:
+    for seed in LEDGERS[:: 10 if check.words.few else 1]:
         log = check.run("mmsim", ["run"], drawn(seed)).err.decode()
         lines = log.count("at ")
         draw = random.Random(seed)
@@ -248,7 +253,9 @@ def compare_ledgers(check: Check) -> None:
 
 
 def main() -> int:
-    check = begin(__doc__, ("mmsim", "mmshow"))
+    parser = argparse.ArgumentParser(description=(__doc__ or "").split("\n")[0])
+    parser.add_argument("--few", action="store_true", help="compare a tenth of the drawn logs")
+    check = begin(__doc__, ("mmsim", "mmshow"), parser)
     mmshow = check.programs["mmshow"]
     workers = os.cpu_count()
     with tempfile.TemporaryDirectory() as room:
