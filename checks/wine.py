@@ -31,7 +31,7 @@ import held  # noqa: E402
 import reasons  # noqa: E402
 
 PACKAGES = ["wine64", "gcc-mingw-w64-x86-64"]
-COMPILER = "x86_64-w64-mingw32-gcc"
+COMPILER, COMPILER_32 = "x86_64-w64-mingw32-gcc", "i686-w64-mingw32-gcc"
 PLACES_64 = ["/usr/lib/wine/wine64", "wine64", "wine"]
 PLACES_32 = ["/usr/lib/wine/wine", "/usr/lib/i386-linux-gnu/wine/wine"]
 SCRIPTS, LINES = 60, 60
@@ -64,7 +64,9 @@ class Wine:
         self.room, self.pack = room, room / "pack"
         self.environment = {name: value for name, value in os.environ.items() if name not in ("DISPLAY", "WAYLAND_DISPLAY")}
         self.environment |= {"WINEPREFIX": str(room / "prefix"), "WINEDEBUG": "-all", "WINEDLLOVERRIDES": "mscoree,mshtml="}
-        ran = subprocess.run([str(TOOLS / "pack"), str(self.pack)], stdout=subprocess.PIPE, stderr=subprocess.STDOUT, text=True)
+        programs = ["real64.exe", *(["real32.exe"] if found(PLACES_32) and shutil.which(COMPILER_32) else [])]
+        pack = [str(TOOLS / "pack"), str(self.pack), *programs]
+        ran = subprocess.run(pack, stdout=subprocess.PIPE, stderr=subprocess.STDOUT, text=True)
         if ran.returncode:
             raise RuntimeError(ran.stdout.strip())
 
