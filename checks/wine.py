@@ -1,5 +1,5 @@
 #!/usr/bin/env python3
-"""Makes the calls of all rows of tests/windows, and of 60 drawn scripts, under Wine: checks/wine.py [MMSIM]
+"""Makes the calls of all rows of tests/windows, and of 60 drawn scripts, under Wine: checks/wine.py [MMSIM | --bin FOLDER]
 
 Wine is no Windows. Each line that it answers otherwise than Windows as the row says, or than the simulator in a drawn script, stands in a list with its
 reason (tests/windows/results). The list is exact: a line that is not in it fails, and so does one whose difference is gone.
@@ -15,6 +15,7 @@ the check is left out. With a 32-bit Wine the 32-bit program is compared too.
 from __future__ import annotations
 
 import os
+import re
 import shutil
 import subprocess
 import sys
@@ -24,6 +25,7 @@ from typing import Iterator
 
 TOP = Path(__file__).resolve().parent.parent
 TOOLS, RESULTS = TOP / "tools" / "windows", TOP / "tests" / "windows" / "results"
+DOCUMENT = TOP / "docs" / "WINDOWS.md"
 sys.path.insert(0, str(TOOLS))
 
 import draw  # noqa: E402
@@ -31,7 +33,7 @@ import held  # noqa: E402
 import reasons  # noqa: E402
 
 PACKAGES = ["wine64", "gcc-mingw-w64-x86-64"]
-COMPILER = "x86_64-w64-mingw32-gcc"
+COMPILER, COMPILER_32 = "x86_64-w64-mingw32-gcc", "i686-w64-mingw32-gcc"
 PLACES_64 = ["/usr/lib/wine/wine64", "wine64", "wine"]
 PLACES_32 = ["/usr/lib/wine/wine", "/usr/lib/i386-linux-gnu/wine/wine"]
 SCRIPTS, LINES = 60, 60
@@ -64,7 +66,9 @@ class Wine:
         self.room, self.pack = room, room / "pack"
         self.environment = {name: value for name, value in os.environ.items() if name not in ("DISPLAY", "WAYLAND_DISPLAY")}
         self.environment |= {"WINEPREFIX": str(room / "prefix"), "WINEDEBUG": "-all", "WINEDLLOVERRIDES": "mscoree,mshtml="}
-        ran = subprocess.run([str(TOOLS / "pack"), str(self.pack)], stdout=subprocess.PIPE, stderr=subprocess.STDOUT, text=True)
+        programs = ["real64.exe", *(["real32.exe"] if found(PLACES_32) and shutil.which(COMPILER_32) else [])]
+        pack = [str(TOOLS / "pack"), str(self.pack), *programs]
+        ran = subprocess.run(pack, stdout=subprocess.PIPE, stderr=subprocess.STDOUT, text=True)
         if ran.returncode:
             raise RuntimeError(ran.stdout.strip())
 
@@ -159,6 +163,58 @@ def drawn(first: int, last: int, lines: int) -> list[tuple[str, list[str]]]:
     return [(str(seed), draw.script(seed, lines)) for seed in range(first, last + 1)]
 
 
+# ---- what the documents tell of the results ----
+
+
+def outcomes() -> dict[str, dict[str, list[str]]]:
+    """For each system that has files of results ("Wine 8.0") and each row what it came to, in the 64-bit and in the 32-bit program."""
+    found_ones: dict[str, dict[str, list[str]]] = {}
+    for path in sorted(RESULTS.glob("*-??.txt")):
+        name, version_of_it = path.stem[:-3].split("-", 1)
+        rows = found_ones.setdefault(f"{name.capitalize()} {version_of_it}", {})
+        for text in path.read_text("ascii").splitlines():
+            row = re.match(r"\S+\.md (\S+): ([^,]+),", text)
+            if row:
+                rows.setdefault(row[1], []).append(row[2])
+    return found_ones
+
+
+def seen(names: list[str], systems: dict[str, dict[str, list[str]]]) -> str:
+    """On which systems Windows' answers of some rows were seen, as the tables of docs/WINDOWS.md have it."""
+    told = []
+    for system, rows in systems.items():
+        came = [rows.get(name, []) for name in names]
+        if any("otherwise" in one for one in came):
+            told.append(f"not {system}")
+        elif all("as WINDOWS.md says" in one for one in came):
+            told.append(system)
+        elif any("as WINDOWS.md says" in one for one in came):
+            told.append(f"{system} in part")
+    return ", ".join(told) or "no"
+
+
+def result_row(path: Path) -> str:
+    """The row of docs/WINDOWS.md that tells of a file of results."""
+    name, version_of_it = path.stem[:-3].split("-", 1)
+    text = path.read_text("ascii")
+    sums = re.search(r"^all +(\d+) +(\d+) +(\d+) +(\d+) +(\d+)$", text, re.MULTILINE)
+    lines = re.search(r"^lines (\d+), compared (\d+)$", text, re.MULTILINE)
+    cells = [f"{name.capitalize()} {version_of_it}", f"{path.stem[-2:]} bits", *(sums.groups() if sums else ()), lines[2] if lines else ""]
+    return "| " + " | ".join(cells) + f" | [{path.name}](../tests/windows/results/{path.name}) |"
+
+
+def compare_document() -> list[str]:
+    """What docs/WINDOWS.md does not tell as the files of results have it."""
+    wrong, systems = [], outcomes()
+    text = DOCUMENT.read_text("ascii").splitlines()
+    for line in text:
+        names = re.findall(r"\]\(\.\./tests/windows/[^)#]+#([^)]*)\)", line)
+        if line.startswith("|") and names and f" | {seen(names, systems)} | [" not in line:
+            wrong.append(f"docs/WINDOWS.md: {names[0]}: its column Seen is to be `{seen(names, systems)}`")
+    wrong += [f"docs/WINDOWS.md: lacks `{row}`" for path in sorted(RESULTS.glob("*-??.txt")) if (row := result_row(path)) not in text]
+    return wrong
+
+
 # ---- what is stored ----
 
 
@@ -233,7 +289,7 @@ def check_all(wine: Wine, simulate: held.Simulate, write: bool) -> tuple[int, li
         write_known(path, told | kept)
         known = read_known(path)
     wrong += compare_known(told, {key: parts for key, parts in known.items() if key.split()[0] in ran})
-    return compared + lines, wrong
+    return compared + lines, wrong + compare_document()
 
 
 def check_scripts(scripts: list[tuple[str, list[str]]], wine: Wine, simulate: held.Simulate) -> tuple[int, list[str]]:
@@ -250,11 +306,27 @@ def scripts_asked(arguments: list[str]) -> list[tuple[str, list[str]]]:
     return [(Path(path).stem, Path(path).read_text("latin-1").splitlines()) for path in arguments[1:]]
 
 
+def program_of(arguments: list[str]) -> str:
+    """The simulator: the first word, or that of --bin FOLDER, or of the folder MELZUDEK_BIN, or the one that the gate built."""
+    if arguments[:1] == ["--bin"] and len(arguments) > 1:
+        folder = arguments[1]
+        del arguments[:2]
+        return os.path.join(folder, "mmsim")
+    if arguments and not arguments[0].startswith("-"):
+        return arguments.pop(0)
+    folder = os.environ.get("MELZUDEK_BIN")
+    return os.path.join(folder, "mmsim") if folder else str(TOP / "crates" / "mmsim" / "out" / "mmsim")
+
+
 def main(arguments: list[str]) -> int:
-    mmsim = arguments.pop(0) if arguments and not arguments[0].startswith("-") else str(TOP / "crates" / "mmsim" / "out" / "mmsim")
+    arguments = list(arguments)
+    mmsim = program_of(arguments)
     if not installed():
-        print("wine: left out, as Wine is not installed and cannot be (apt-get install wine64 gcc-mingw-w64-x86-64)")
+        print("wine: left out, as Wine is not installed and cannot be (apt-get install wine64 gcc-mingw-w64-x86-64): 0 compared, no differences")
         return 0
+    if not os.access(mmsim, os.X_OK):
+        print(f"wine: there is no {mmsim}: build it, or name one\nwine: 0 compared, 1 differences")
+        return 1
     simulate = held.simulator(mmsim)
     with tempfile.TemporaryDirectory(prefix="wine-") as room:
         wine = Wine(Path(room))

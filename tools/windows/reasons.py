@@ -309,7 +309,7 @@ def of_protect(case: Case) -> Iterator[Explanation]:
     if case.said.startswith("ok"):
         if base == 0x04 and first.type == MAPPED and first.made_with in (0x02, 0x08):
             yield "here-protect-readwrite", "error 87"
-        if first.type == MAPPED and first.made_with == 0x08 and first.protection & 0xFF == 0x04:
+        if told_by_wine(first) != first.protection:
             yield "wine-copied-page", f"ok 0x{told_by_wine(first):08X}"
         if case.view and case.view.section.by_page:
             if any(case.is_unrecorded(page) for page in case.pages):
@@ -319,8 +319,8 @@ def of_protect(case: Case) -> Iterator[Explanation]:
 
 
 def told_by_wine(page: Page) -> int:
-    """The protection that Wine tells of a page: it knows of no copied page in a copy view."""
-    if page.type == MAPPED and page.made_with == 0x08 and page.protection & 0xFF == 0x04:
+    """The protection that Wine tells of a page: it knows of no copied page. In a copy or read view PAGE_READWRITE is had by a copy alone."""
+    if page.type == MAPPED and page.made_with in (0x02, 0x08) and page.protection & 0xFF == 0x04:
         return page.protection & ~0xFF | 0x08
     return page.protection
 
@@ -434,7 +434,7 @@ def of_map(case: Case) -> Iterator[Explanation]:
         yield "here-handle-rights", "error 5"
     if handle and writes and handle.writes and handle.section.protection != 0x04 and case.said == "error 5":
         yield "here-section-refuses", "error 87"
-        yield "wine-section-writable", f"ok 0x{address:08X}"
+        yield "wine-section-writable", f"ok 0x{address:08X}" if address else "ok elsewhere"
     if (offset % GRANULE or address % GRANULE) and case.said in ("error 5", "error 6"):
         yield "open-map-order", "error 1132"
     if case.said == "error 487" and address < HIGHEST:
@@ -495,6 +495,8 @@ def after(case: Case, real: str) -> str | None:
         return "wine-writecopy-shared"  # another view sees what was written through a page made PAGE_WRITECOPY
     if case.verb == "query" and case.first.type == MAPPED and case.first.protection == 0x04 and real == spelled(case.first._replace(protection=0x08)):
         return "wine-copied-page"
+    if case.verb == "query" and case.first.state == COMMITTED and real == spelled(case.first._replace(protection=GUARD | 0x01)):
+        return "wine-guard-noaccess"
     return None
 
 
