@@ -44,7 +44,8 @@ class Browser:
     """One window. Its methods raise BrowserError where the browser does not answer in time."""
 
     def __init__(self, name: str, width: int = 1500, height: int = 1400) -> None:
-        self.profile = tempfile.TemporaryDirectory()
+        # its helpers may still write there as it ends
+        self.profile = tempfile.TemporaryDirectory(ignore_cleanup_errors=True)
         (reads, self.to), (self.back, writes) = os.pipe(), os.pipe()
         words = [name, "--headless=new", "--no-sandbox", "--disable-gpu", "--hide-scrollbars"]
         words += ["--remote-debugging-pipe", f"--user-data-dir={self.profile.name}", "about:blank"]

@@ -382,12 +382,20 @@ def drawn(hands: Hands) -> None:
     hands.note("the curve of keys", "Keys, not the charge" in texts, True)
     hands.note("answers in one form", "Answers other than ok" in texts, True)
     hands.note("fault rates", any(text.startswith("Faults ") for text in texts), True)
-    for wide in (1500, 700, 390):
-        hands.browser.resize(wide, 1400)
-        hands.js(LATER)
-        hands.note(f"labels at {wide} pixels", hands.js(CLIPPED), 0)
+    hands.browser.resize(390, 1400)
+    hands.js(LATER)
     part = hands.js("(page.charts.axis.right - page.charts.axis.left) / innerWidth")
     hands.note("charts on a phone", part > 0.9, True)
+    hands.browser.resize(1500, 1400)
+
+
+def first_label(hands: Hands) -> None:
+    long = "machine 16 16 2 0\nwrite 1 0x10000 " + "01" * 40 + "\n" + "process 0 8\n" * 31
+    log, files = hands.played(long)
+    for wide in (1500, 900, 700):
+        hands.browser.resize(wide, 1400)
+        hands.page(log, files)
+        hands.note(f"clipped pixels at a width of {wide}", hands.js(CLIPPED), 0)
     hands.browser.resize(1500, 1400)
 
 
@@ -449,6 +457,35 @@ def regions(hands: Hands, observe: Callable[[str, bytes], bytes]) -> None:
     hands.has("the legend", legend, "Guard page")
     sections = hands.js("document.getElementById('sections').textContent")
     hands.has("a section's views", sections, "1:0x10000, 2:0x40000 copy")
+
+
+def without_observations(hands: Hands, observe: Callable[[str, bytes], bytes]) -> None:
+    """A page of a place is of one kind, whether regions were observed or not."""
+    with open("examples/under-pressure.mm", encoding="ascii") as file:
+        script = file.read()
+    log, files = hands.played(script)
+    observed = hands.file("hands.observed", observe(hands.mmsim, script.encode()))
+    kinds = []
+    for some in ([*files, observed], files, []):
+        hands.page(log, some)
+        kinds.append(hands.js(KINDS))
+    for what, found in (("the script", kinds[1]), ("the log alone", kinds[2])):
+        other = {name: kind for name, kind in found.items() if kinds[0][name] != kind}
+        hands.note(f"kinds that are others by {what}", other, {})
+    hands.note("there are kinds", len(kinds[2]) > 500, True)
+
+
+# the kinds of the pages of all places that have one after a line
+KINDS = """(() => {
+  const kinds = {};
+  for (const { number } of page.data.lines) {
+    for (const { pid, page: at, name } of page.data.places.values()) {
+      const found = page.pages.after(pid, at, number);
+      if (found) kinds[number + ' ' + name] = found.kind + ' ' + found.isCopied;
+    }
+  }
+  return kinds;
+})()"""
 
 
 def strangers(hands: Hands, observe: Callable[[str, bytes], bytes]) -> None:
@@ -545,6 +582,7 @@ ALONE = [
     early_end,
     find,
     drawn,
+    first_label,
     idle_frames,
     many_processes,
     bad_observations,
@@ -567,6 +605,6 @@ def check(
     for case in ALONE:
         hands.name = case.__name__
         case(hands)
-    for observed in (regions, strangers):
+    for observed in (regions, without_observations, strangers):
         hands.name = observed.__name__
         observed(hands, observe)

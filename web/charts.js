@@ -143,11 +143,11 @@ function makeCharts(page) {
     legend();
     mark();
   }
-  // What hangs on the chosen line.
-  function mark() {
+  // What hangs on the chosen line; on paper it is drawn into the charts.
+  function mark(isPaper = false) {
     if (!size) return;
     const { axis } = charts;
-    const pen = new Pen(marks, size.width, size.height);
+    const pen = isPaper ? sheet.pen : new Pen(marks, size.width, size.height);
     for (const part of sheet.parts) part(pen);
     stripChart.mark(pen);
     frameChart.mark(pen);

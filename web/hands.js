@@ -115,8 +115,10 @@ function attachHands(page, show) {
 
   // ---- light, dark, paper, another width
   function repaintOnPaper({ type }) {
-    document.documentElement.classList.toggle('paper', type === 'beforeprint');
+    const isPaper = type === 'beforeprint';
+    document.documentElement.classList.toggle('paper', isPaper);
     charts.draw();
+    if (isPaper) charts.mark(true);
   }
   new ResizeObserver(charts.draw).observe(element('sheet'));
   matchMedia('(prefers-color-scheme: dark)').addEventListener('change', charts.draw);

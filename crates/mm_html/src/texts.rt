@@ -122,8 +122,9 @@ tr:has(.chosen) { background: var(--chosen); }\n\
 #history h2 { display: flex; justify-content: space-between; }\n\
 .rows { max-height: 300px; overflow: auto; }\n\
 @media print {\n\
-nav, .screen-only { display: none; }\n\
+nav, #marks, .screen-only { display: none; }\n\
 main, #side, .rows { display: block; max-height: none; }\n\
+canvas { height: auto !important; max-height: 18cm; object-fit: contain; object-position: 0 0; }\n\
 }\n\
 </style>\n\
 </head>\n\
@@ -1997,10 +1998,10 @@ drawOverview(width);\n\
 legend();\n\
 mark();\n\
 }\n\
-function mark() {\n\
+function mark(isPaper = false) {\n\
 if (!size) return;\n\
 const { axis } = charts;\n\
-const pen = new Pen(marks, size.width, size.height);\n\
+const pen = isPaper ? sheet.pen : new Pen(marks, size.width, size.height);\n\
 for (const part of sheet.parts) part(pen);\n\
 stripChart.mark(pen);\n\
 frameChart.mark(pen);\n\
@@ -2564,8 +2565,10 @@ addEventListener('message', ({ data: said }) => {\n\
 if (said?.melzudek === 'line') choose(Number(said.line), { isTold: true });\n\
 });\n\
 function repaintOnPaper({ type }) {\n\
-document.documentElement.classList.toggle('paper', type === 'beforeprint');\n\
+const isPaper = type === 'beforeprint';\n\
+document.documentElement.classList.toggle('paper', isPaper);\n\
 charts.draw();\n\
+if (isPaper) charts.mark(true);\n\
 }\n\
 new ResizeObserver(charts.draw).observe(element('sheet'));\n\
 matchMedia('(prefers-color-scheme: dark)').addEventListener('change', charts.draw);\n\
