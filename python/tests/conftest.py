@@ -32,4 +32,4 @@ def pytest_configure() -> None:
     real = programs.find("mmshow")
     if not has_events(real):
         os.environ["FAKE_MMSHOW"] = real
-        os.environ["MELZUDEK_MMSHOW"] = str(Path(__file__).with_name("fake_mmshow.py"))
+        os.environ["MELZUDEK_MMSHOW"] = str(Path(__file__).with_name("fake_mmshow"))
