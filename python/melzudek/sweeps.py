@@ -30,7 +30,8 @@ from .scripts import Script, Value, head, read_script
 from .workers import COUNTS, Row, ScriptSource, Source, packed, row_of, tools, unpacked
 
 RETRIES = 3  # of a task whose worker was lost or whose call of the network failed
-SECONDS = 15  # to find a scheduler, and as many to find a first worker
+SECONDS = 15  # to find a scheduler
+WORKER_SECONDS = 60  # until its first worker is there
 POLICIES = ("lru", "optimum", "fifo", "clock")
 Share = tuple[int, int]
 
@@ -227,7 +228,7 @@ class Cluster:
             raise Mistake(f"there is no scheduler at {self.scheduler}: {why}") from error
         self.left.callback(self.client.close)
         try:
-            self.client.wait_for_workers(1, timeout=SECONDS)
+            self.client.wait_for_workers(1, timeout=WORKER_SECONDS)
         except TimeoutError as error:
             where = f"the scheduler at {self.scheduler} has no worker"
             raise Mistake(f"{where}: `dask-worker {self.scheduler}` begins one") from error
