@@ -3,9 +3,9 @@ process 0 65536
 alloc 1 0x4000000 0x100000 0x2000 0x04
 alloc 1 0x401A000 0x1000 0x1000 0x40
 exec 1 0x401A000
-alloc 1 0x70700000 0x100000 0x2000 0x04
-alloc 1 0x70700000 0x1000 0x1000 0x40
-write 1 0x70700000 01
+alloc 1 0x41F00000 0x100000 0x2000 0x04
+alloc 1 0x41F00000 0x1000 0x1000 0x40
+write 1 0x41F00000 01
 alloc 1 0x401B000 0x1000 0x1000 0x40
 exec 1 0x401B000
 alloc 1 0x4033000 0x1000 0x1000 0x40
@@ -39,7 +39,7 @@ read 1 0x4027000 1
 age 1
 exec 1 0x4014000
 read 1 0x4027000 1
-read 1 0x70700000 1
+read 1 0x41F00000 1
 exec 1 0x4015000
 read 1 0x4032000 1
 read 1 0x4031000 1
@@ -91,7 +91,7 @@ alloc 1 0x4028000 0x1000 0x1000 0x40
 read 1 0x4028000 1
 age 1
 exec 1 0x4019000
-read 1 0x70700000 1
+read 1 0x41F00000 1
 exec 1 0x4005000
 write 1 0x4034000 01
 exec 1 0x4006000
@@ -108,9 +108,9 @@ exec 1 0x4011000
 exec 1 0x4016000
 exec 1 0x401F000
 exec 1 0x401B000
-alloc 1 0x70600000 0x100000 0x2000 0x04
-alloc 1 0x706FF000 0x1000 0x1000 0x40
-write 1 0x706FF000 01
+alloc 1 0x41E00000 0x100000 0x2000 0x04
+alloc 1 0x41EFF000 0x1000 0x1000 0x40
+write 1 0x41EFF000 01
 exec 1 0x4023000
 read 1 0x4029000 1
 exec 1 0x4021000
@@ -132,8 +132,8 @@ exec 1 0x4004000
 alloc 1 0x4800000 0x100000 0x2000 0x04
 alloc 1 0x4835000 0x1000 0x1000 0x40
 write 1 0x4835000 01
-alloc 1 0x706FE000 0x1000 0x1000 0x40
-write 1 0x706FE000 01
+alloc 1 0x41EFE000 0x1000 0x1000 0x40
+write 1 0x41EFE000 01
 alloc 1 0x483B000 0x1000 0x1000 0x40
 write 1 0x483B000 01
 alloc 1 0x483A000 0x1000 0x1000 0x40
@@ -166,7 +166,7 @@ read 1 0x4842000 1
 age 1
 exec 1 0x400A000
 write 1 0x4034000 01
-read 1 0x706FF000 1
+read 1 0x41EFF000 1
 exec 1 0x4021000
 read 1 0x4835000 1
 exec 1 0x4006000
@@ -193,7 +193,7 @@ exec 1 0x4023000
 exec 1 0x4011000
 exec 1 0x4016000
 exec 1 0x4008000
-read 1 0x70700000 1
+read 1 0x41F00000 1
 exec 1 0x4002000
 exec 1 0x4018000
 read 1 0x123000 1
@@ -214,7 +214,7 @@ exec 1 0x4012000
 read 1 0x109000 1
 write 1 0x4835000 01
 read 1 0x4034000 1
-read 1 0x70700000 1
+read 1 0x41F00000 1
 read 1 0x483A000 1
 read 1 0x4A1A000 1
 read 1 0x486C000 1
@@ -267,7 +267,7 @@ alloc 1 0x4A1B000 0x1000 0x1000 0x40
 write 1 0x4A1B000 01
 write 1 0x4A1C000 01
 read 1 0x4835000 1
-write 1 0x70700000 01
+write 1 0x41F00000 01
 exec 1 0x400E000
 read 1 0x486C000 1
 read 1 0x486B000 1
@@ -299,7 +299,7 @@ age 1
 write 1 0x4A1A000 01
 exec 1 0x400E000
 read 1 0x486C000 1
-read 1 0x70700000 1
+read 1 0x41F00000 1
 read 1 0x486A000 1
 read 1 0x4835000 1
 read 1 0x4850000 1
@@ -352,7 +352,7 @@ alloc 1 0x485F000 0x1000 0x1000 0x40
 read 1 0x485F000 1
 age 1
 exec 1 0x4009000
-read 1 0x70700000 1
+read 1 0x41F00000 1
 read 1 0x4835000 1
 exec 1 0x4008000
 read 1 0x4034000 1
@@ -404,7 +404,7 @@ read 1 0x4028000 1
 read 1 0x109000 1
 read 1 0x4865000 1
 exec 1 0x4023000
-read 1 0x70700000 1
+read 1 0x41F00000 1
 exec 1 0x4008000
 read 1 0x4034000 1
 read 1 0x4835000 1
@@ -444,7 +444,7 @@ read 1 0x4852000 1
 read 1 0x4863000 1
 age 1
 exec 1 0x4009000
-read 1 0x70700000 1
+read 1 0x41F00000 1
 read 1 0x4835000 1
 exec 1 0x4008000
 read 1 0x4034000 1
@@ -486,7 +486,7 @@ age 1
 read 1 0x4835000 1
 exec 1 0x4008000
 read 1 0x4032000 1
-write 1 0x70700000 01
+write 1 0x41F00000 01
 read 1 0x4A1A000 1
 read 1 0x484C000 1
 exec 1 0x4009000
@@ -525,7 +525,7 @@ read 1 0x4000000 1
 read 1 0x4028000 1
 age 1
 exec 1 0x4008000
-write 1 0x70700000 01
+write 1 0x41F00000 01
 read 1 0x4855000 1
 read 1 0x4835000 1
 read 1 0x486A000 1
@@ -587,7 +587,7 @@ exec 1 0x4011000
 read 1 0x4836000 1
 write 1 0x483B000 01
 age 1
-read 1 0x70700000 1
+read 1 0x41F00000 1
 exec 1 0x4009000
 exec 1 0x4008000
 read 1 0x109000 1
@@ -628,7 +628,7 @@ read 1 0x4028000 1
 read 1 0x4869000 1
 age 1
 exec 1 0x4009000
-read 1 0x70700000 1
+read 1 0x41F00000 1
 exec 1 0x4008000
 read 1 0x485A000 1
 read 1 0x109000 1
@@ -678,7 +678,7 @@ read 1 0x4034000 1
 exec 1 0x400D000
 write 1 0x124000 01
 read 1 0x10A000 1
-read 1 0x70700000 1
+read 1 0x41F00000 1
 exec 1 0x400E000
 read 1 0x4032000 1
 exec 1 0x4020000
@@ -738,7 +738,7 @@ read 1 0x4861000 1
 exec 1 0x4016000
 age 1
 exec 1 0x4020000
-read 1 0x70700000 1
+read 1 0x41F00000 1
 exec 1 0x400D000
 exec 1 0x400E000
 exec 1 0x401E000
@@ -1033,7 +1033,7 @@ read 1 0x4A19000 1
 read 1 0x11E000 1
 age 1
 exec 1 0x487A000
-read 1 0x70700000 1
+read 1 0x41F00000 1
 read 1 0x4A2A000 1
 read 1 0x11E000 1
 exec 1 0x4887000
@@ -1132,7 +1132,7 @@ read 1 0x109000 1
 read 1 0x108000 1
 age 1
 exec 1 0x4009000
-write 1 0x70700000 01
+write 1 0x41F00000 01
 read 1 0x109000 1
 write 1 0x4033000 01
 read 1 0x4034000 1
@@ -1193,7 +1193,7 @@ exec 1 0x10B000
 read 1 0x4A2A000 1
 read 1 0x49C6000 1
 read 1 0x49C5000 1
-write 1 0x70700000 01
+write 1 0x41F00000 01
 read 1 0x123000 1
 exec 1 0x4012000
 read 1 0x4032000 1
@@ -1231,7 +1231,7 @@ read 1 0x4854000 1
 read 1 0x4864000 1
 read 1 0x485F000 1
 age 1
-read 1 0x70700000 1
+read 1 0x41F00000 1
 exec 1 0x4008000
 exec 1 0x4022000
 read 1 0x4028000 1
@@ -1355,7 +1355,7 @@ age 1
 exec 1 0x4008000
 read 1 0x4835000 1
 read 1 0x4032000 1
-write 1 0x70700000 01
+write 1 0x41F00000 01
 read 1 0x4A1A000 1
 read 1 0x484C000 1
 exec 1 0x4009000
@@ -1488,7 +1488,7 @@ read 1 0x124000 1
 exec 1 0x10F000
 age 1
 exec 1 0x10F000
-read 1 0x70700000 1
+read 1 0x41F00000 1
 exec 1 0x10B000
 read 1 0x124000 1
 read 1 0x123000 1
@@ -1554,7 +1554,7 @@ alloc 1 0x4A88000 0x1000 0x1000 0x40
 write 1 0x4A88000 01
 age 1
 exec 1 0x10F000
-read 1 0x70700000 1
+read 1 0x41F00000 1
 exec 1 0x10B000
 read 1 0x124000 1
 exec 1 0x499A000
@@ -1566,7 +1566,7 @@ write 1 0x4A87000 01
 age 1
 exec 1 0x499A000
 read 1 0x4A2D000 1
-read 1 0x70700000 1
+read 1 0x41F00000 1
 exec 1 0x10F000
 write 1 0x4A87000 01
 read 1 0x4035000 1
@@ -1581,7 +1581,7 @@ exec 1 0x10F000
 write 1 0x4A2D000 01
 write 1 0x4A85000 01
 read 1 0x4035000 1
-read 1 0x70700000 1
+read 1 0x41F00000 1
 exec 1 0x10B000
 read 1 0x124000 1
 exec 1 0x499A000
@@ -1591,7 +1591,7 @@ age 1
 exec 1 0x10F000
 write 1 0x4A84000 01
 read 1 0x4035000 1
-read 1 0x70700000 1
+read 1 0x41F00000 1
 exec 1 0x10B000
 read 1 0x124000 1
 exec 1 0x499A000
@@ -1603,7 +1603,7 @@ exec 1 0x10B000
 read 1 0x124000 1
 exec 1 0x499A000
 read 1 0x4A2D000 1
-read 1 0x70700000 1
+read 1 0x41F00000 1
 exec 1 0x10F000
 write 1 0x4A83000 01
 read 1 0x4035000 1
@@ -1611,7 +1611,7 @@ alloc 1 0x4A82000 0x1000 0x1000 0x40
 write 1 0x4A82000 01
 age 1
 exec 1 0x499A000
-read 1 0x70700000 1
+read 1 0x41F00000 1
 exec 1 0x10F000
 write 1 0x4A2D000 01
 write 1 0x4A82000 01
@@ -1664,7 +1664,7 @@ exec 1 0x48C8000
 read 1 0x485E000 1
 read 1 0x4864000 1
 age 1
-read 1 0x70700000 1
+read 1 0x41F00000 1
 exec 1 0x4009000
 exec 1 0x400F000
 read 1 0x4A2A000 1
@@ -1740,7 +1740,7 @@ exec 1 0x111000
 alloc 1 0x110000 0x1000 0x1000 0x40
 exec 1 0x110000
 read 1 0x4A81000 1
-write 1 0x706FE000 01
+write 1 0x41EFE000 01
 read 1 0x4A2D000 1
 write 1 0x4A2D000 01
 exec 1 0x11A000
@@ -1765,7 +1765,7 @@ read 1 0x108000 1
 read 1 0x109000 1
 read 1 0x108000 1
 read 1 0x109000 1
-write 1 0x706FF000 01
+write 1 0x41EFF000 01
 read 1 0x108000 1
 read 1 0x4856000 1
 read 1 0x4868000 1
@@ -1808,8 +1808,8 @@ exec 1 0x110000
 age 1
 read 1 0x4A2A000 1
 exec 1 0x110000
-write 1 0x70700000 01
-write 1 0x706FE000 01
+write 1 0x41F00000 01
+write 1 0x41EFE000 01
 read 1 0x4035000 1
 read 1 0x124000 1
 read 1 0x4A2D000 1
@@ -1822,12 +1822,12 @@ exec 1 0x499A000
 age 1
 exec 1 0x110000
 read 1 0x4A2D000 1
-write 1 0x706FE000 01
+write 1 0x41EFE000 01
 read 1 0x4035000 1
 read 1 0x124000 1
 exec 1 0x11A000
 exec 1 0x111000
-read 1 0x70700000 1
+read 1 0x41F00000 1
 read 1 0x4A2A000 1
 read 1 0x4A81000 1
 read 1 0x4A7F000 1
@@ -1836,12 +1836,12 @@ exec 1 0x499A000
 age 1
 read 1 0x4A2D000 1
 exec 1 0x110000
-write 1 0x706FE000 01
+write 1 0x41EFE000 01
 read 1 0x4035000 1
 read 1 0x124000 1
 exec 1 0x11A000
 exec 1 0x111000
-read 1 0x70700000 1
+read 1 0x41F00000 1
 read 1 0x4A2A000 1
 read 1 0x4A81000 1
 read 1 0x4A7F000 1
@@ -1849,12 +1849,12 @@ exec 1 0x10B000
 exec 1 0x499A000
 age 1
 exec 1 0x111000
-read 1 0x70700000 1
+read 1 0x41F00000 1
 read 1 0x4A7F000 1
 write 1 0x4A81000 01
 read 1 0x124000 1
 exec 1 0x110000
-write 1 0x706FE000 01
+write 1 0x41EFE000 01
 read 1 0x4A2A000 1
 read 1 0x4035000 1
 read 1 0x4A2D000 1
@@ -1863,12 +1863,12 @@ exec 1 0x10B000
 exec 1 0x499A000
 age 1
 exec 1 0x111000
-write 1 0x70700000 01
+write 1 0x41F00000 01
 read 1 0x124000 1
 exec 1 0x110000
 read 1 0x4A81000 1
 read 1 0x4A7F000 1
-write 1 0x706FE000 01
+write 1 0x41EFE000 01
 read 1 0x4A2A000 1
 read 1 0x4035000 1
 read 1 0x4A2D000 1
@@ -1877,40 +1877,40 @@ exec 1 0x10B000
 exec 1 0x499A000
 age 1
 exec 1 0x110000
-write 1 0x706FE000 01
+write 1 0x41EFE000 01
 read 1 0x124000 1
 exec 1 0x11A000
 read 1 0x4A2D000 1
 exec 1 0x111000
 read 1 0x4035000 1
-read 1 0x70700000 1
-read 1 0x4A2A000 1
-read 1 0x4A7F000 1
-read 1 0x4A81000 1
-exec 1 0x10B000
-exec 1 0x499A000
-age 1
-exec 1 0x110000
-read 1 0x124000 1
-read 1 0x4035000 1
-write 1 0x706FE000 01
-read 1 0x4A2D000 1
-exec 1 0x11A000
-exec 1 0x111000
-read 1 0x70700000 1
+read 1 0x41F00000 1
 read 1 0x4A2A000 1
 read 1 0x4A7F000 1
 read 1 0x4A81000 1
 exec 1 0x10B000
 exec 1 0x499A000
 age 1
+exec 1 0x110000
+read 1 0x124000 1
+read 1 0x4035000 1
+write 1 0x41EFE000 01
+read 1 0x4A2D000 1
+exec 1 0x11A000
+exec 1 0x111000
+read 1 0x41F00000 1
+read 1 0x4A2A000 1
+read 1 0x4A7F000 1
+read 1 0x4A81000 1
+exec 1 0x10B000
+exec 1 0x499A000
+age 1
 exec 1 0x11A000
 read 1 0x4A2D000 1
-read 1 0x706FE000 1
+read 1 0x41EFE000 1
 exec 1 0x110000
 exec 1 0x111000
 read 1 0x4035000 1
-read 1 0x70700000 1
+read 1 0x41F00000 1
 read 1 0x4A2A000 1
 read 1 0x4A81000 1
 write 1 0x4A7F000 01
@@ -1922,22 +1922,22 @@ age 1
 read 1 0x4035000 1
 exec 1 0x110000
 read 1 0x124000 1
-write 1 0x706FE000 01
+write 1 0x41EFE000 01
 read 1 0x4A2D000 1
 exec 1 0x11A000
 exec 1 0x111000
-read 1 0x70700000 1
+read 1 0x41F00000 1
 read 1 0x4A2A000 1
 read 1 0x4A81000 1
 read 1 0x4A7F000 1
 age 1
 exec 1 0x11A000
 read 1 0x4A2D000 1
-read 1 0x706FE000 1
+read 1 0x41EFE000 1
 exec 1 0x110000
 exec 1 0x111000
 read 1 0x4035000 1
-read 1 0x70700000 1
+read 1 0x41F00000 1
 read 1 0x4A2A000 1
 read 1 0x4A81000 1
 read 1 0x124000 1
@@ -1953,9 +1953,9 @@ exec 1 0x110000
 read 1 0x4A82000 1
 read 1 0x4A7F000 1
 read 1 0x124000 1
-write 1 0x706FE000 01
+write 1 0x41EFE000 01
 read 1 0x4A2A000 1
-write 1 0x70700000 01
+write 1 0x41F00000 01
 read 1 0x4035000 1
 read 1 0x4A2D000 1
 exec 1 0x11A000
@@ -1968,9 +1968,9 @@ age 1
 read 1 0x4A82000 1
 exec 1 0x110000
 read 1 0x124000 1
-write 1 0x706FE000 01
+write 1 0x41EFE000 01
 read 1 0x4A2A000 1
-write 1 0x70700000 01
+write 1 0x41F00000 01
 read 1 0x4035000 1
 read 1 0x4A2D000 1
 exec 1 0x11A000
@@ -1982,11 +1982,11 @@ age 1
 exec 1 0x110000
 read 1 0x124000 1
 read 1 0x4035000 1
-write 1 0x706FE000 01
+write 1 0x41EFE000 01
 read 1 0x4A2D000 1
 exec 1 0x11A000
 exec 1 0x111000
-read 1 0x70700000 1
+read 1 0x41F00000 1
 read 1 0x4A2A000 1
 read 1 0x4A82000 1
 read 1 0x4A7F000 1
@@ -1994,11 +1994,11 @@ read 1 0x4A7E000 1
 age 1
 exec 1 0x11A000
 read 1 0x4A2D000 1
-read 1 0x706FE000 1
+read 1 0x41EFE000 1
 exec 1 0x110000
 exec 1 0x111000
 read 1 0x4035000 1
-read 1 0x70700000 1
+read 1 0x41F00000 1
 read 1 0x4A2A000 1
 read 1 0x4A7E000 1
 write 1 0x4A7F000 01
@@ -2008,12 +2008,12 @@ exec 1 0x10B000
 exec 1 0x499A000
 age 1
 exec 1 0x111000
-write 1 0x70700000 01
+write 1 0x41F00000 01
 read 1 0x124000 1
 exec 1 0x110000
 read 1 0x4A82000 1
 read 1 0x4A7F000 1
-write 1 0x706FE000 01
+write 1 0x41EFE000 01
 read 1 0x4A2A000 1
 read 1 0x4035000 1
 read 1 0x4A2D000 1
@@ -2022,11 +2022,11 @@ exec 1 0x10B000
 exec 1 0x499A000
 age 1
 exec 1 0x110000
-write 1 0x70700000 01
+write 1 0x41F00000 01
 read 1 0x4A82000 1
 read 1 0x4A7F000 1
 read 1 0x124000 1
-write 1 0x706FE000 01
+write 1 0x41EFE000 01
 read 1 0x4A2A000 1
 read 1 0x4035000 1
 read 1 0x4A2D000 1
@@ -2039,11 +2039,11 @@ age 1
 exec 1 0x110000
 read 1 0x124000 1
 read 1 0x4035000 1
-write 1 0x706FE000 01
+write 1 0x41EFE000 01
 read 1 0x4A2D000 1
 exec 1 0x11A000
 exec 1 0x111000
-read 1 0x70700000 1
+read 1 0x41F00000 1
 read 1 0x4A2A000 1
 read 1 0x4A7F000 1
 write 1 0x4A82000 01
@@ -2052,23 +2052,23 @@ exec 1 0x499A000
 age 1
 exec 1 0x11A000
 read 1 0x4A2D000 1
-read 1 0x706FE000 1
+read 1 0x41EFE000 1
 exec 1 0x110000
 exec 1 0x111000
 read 1 0x4035000 1
-read 1 0x70700000 1
+read 1 0x41F00000 1
 read 1 0x4A2A000 1
 read 1 0x4A82000 1
 write 1 0x4A7F000 01
 read 1 0x124000 1
 age 1
-read 1 0x70700000 1
+read 1 0x41F00000 1
 exec 1 0x111000
 read 1 0x4A82000 1
 write 1 0x4A7F000 01
 read 1 0x124000 1
 exec 1 0x110000
-write 1 0x706FE000 01
+write 1 0x41EFE000 01
 read 1 0x4A2A000 1
 read 1 0x4035000 1
 read 1 0x4A2D000 1
@@ -2076,13 +2076,13 @@ exec 1 0x11A000
 read 1 0x4A81000 1
 age 1
 exec 1 0x110000
-read 1 0x70700000 1
+read 1 0x41F00000 1
 exec 1 0x111000
 read 1 0x4A7F000 1
 write 1 0x4A82000 01
 read 1 0x124000 1
 read 1 0x4A81000 1
-write 1 0x706FE000 01
+write 1 0x41EFE000 01
 read 1 0x4A2A000 1
 read 1 0x4035000 1
 read 1 0x4A2D000 1
@@ -2091,11 +2091,11 @@ age 1
 read 1 0x4035000 1
 exec 1 0x110000
 read 1 0x124000 1
-write 1 0x706FE000 01
+write 1 0x41EFE000 01
 read 1 0x4A2D000 1
 exec 1 0x11A000
 exec 1 0x111000
-read 1 0x70700000 1
+read 1 0x41F00000 1
 read 1 0x4A2A000 1
 read 1 0x4A7F000 1
 write 1 0x4A82000 01
@@ -2103,23 +2103,23 @@ read 1 0x4A81000 1
 age 1
 exec 1 0x11A000
 read 1 0x4A2D000 1
-read 1 0x706FE000 1
+read 1 0x41EFE000 1
 exec 1 0x110000
 exec 1 0x111000
 read 1 0x4035000 1
-read 1 0x70700000 1
+read 1 0x41F00000 1
 read 1 0x4A2A000 1
 read 1 0x4A81000 1
 read 1 0x124000 1
 read 1 0x4A7F000 1
 age 1
-read 1 0x70700000 1
+read 1 0x41F00000 1
 exec 1 0x111000
 read 1 0x4A7F000 1
 write 1 0x4A81000 01
 read 1 0x124000 1
 exec 1 0x110000
-write 1 0x706FE000 01
+write 1 0x41EFE000 01
 read 1 0x4A2A000 1
 read 1 0x4035000 1
 read 1 0x4A2D000 1
@@ -2129,12 +2129,12 @@ read 1 0x4A82000 1
 exec 1 0x10B000
 exec 1 0x499A000
 age 1
-write 1 0x70700000 01
+write 1 0x41F00000 01
 exec 1 0x110000
 read 1 0x4A7E000 1
 read 1 0x4A82000 1
 read 1 0x124000 1
-write 1 0x706FE000 01
+write 1 0x41EFE000 01
 read 1 0x4A2A000 1
 read 1 0x4035000 1
 read 1 0x4A2D000 1
@@ -2145,11 +2145,11 @@ exec 1 0x499A000
 age 1
 exec 1 0x11A000
 read 1 0x4A2D000 1
-read 1 0x706FE000 1
+read 1 0x41EFE000 1
 exec 1 0x110000
 exec 1 0x111000
 read 1 0x4035000 1
-read 1 0x70700000 1
+read 1 0x41F00000 1
 read 1 0x4A2A000 1
 read 1 0x4A82000 1
 write 1 0x4A7E000 01
@@ -2159,11 +2159,11 @@ exec 1 0x499A000
 age 1
 exec 1 0x11A000
 read 1 0x4A2D000 1
-read 1 0x706FE000 1
+read 1 0x41EFE000 1
 exec 1 0x110000
 exec 1 0x111000
 read 1 0x4035000 1
-read 1 0x70700000 1
+read 1 0x41F00000 1
 read 1 0x4A2A000 1
 read 1 0x4A7E000 1
 write 1 0x4A82000 01
@@ -2171,13 +2171,13 @@ read 1 0x124000 1
 exec 1 0x10B000
 exec 1 0x499A000
 age 1
-read 1 0x70700000 1
+read 1 0x41F00000 1
 exec 1 0x110000
 exec 1 0x111000
 read 1 0x4A7E000 1
 read 1 0x124000 1
 read 1 0x4A82000 1
-write 1 0x706FE000 01
+write 1 0x41EFE000 01
 read 1 0x4A2A000 1
 read 1 0x4035000 1
 read 1 0x4A2D000 1
@@ -2187,8 +2187,8 @@ exec 1 0x499A000
 age 1
 read 1 0x4A2A000 1
 exec 1 0x110000
-write 1 0x70700000 01
-write 1 0x706FE000 01
+write 1 0x41F00000 01
+write 1 0x41EFE000 01
 read 1 0x4035000 1
 read 1 0x124000 1
 read 1 0x4A2D000 1
@@ -2200,11 +2200,11 @@ exec 1 0x10B000
 exec 1 0x499A000
 age 1
 exec 1 0x111000
-write 1 0x70700000 01
+write 1 0x41F00000 01
 read 1 0x124000 1
 exec 1 0x110000
 read 1 0x4A82000 1
-write 1 0x706FE000 01
+write 1 0x41EFE000 01
 read 1 0x4A2A000 1
 read 1 0x4035000 1
 read 1 0x4A2D000 1
@@ -2216,11 +2216,11 @@ read 1 0x4A1B000 1
 age 1
 exec 1 0x111000
 write 1 0x4A7E000 01
-write 1 0x70700000 01
+write 1 0x41F00000 01
 read 1 0x124000 1
 exec 1 0x110000
 read 1 0x4A82000 1
-write 1 0x706FE000 01
+write 1 0x41EFE000 01
 read 1 0x4A2A000 1
 read 1 0x4035000 1
 read 1 0x4A2D000 1
@@ -2229,12 +2229,12 @@ exec 1 0x10B000
 exec 1 0x499A000
 age 1
 exec 1 0x110000
-write 1 0x706FE000 01
+write 1 0x41EFE000 01
 exec 1 0x11A000
 read 1 0x4A2D000 1
 exec 1 0x111000
 read 1 0x4035000 1
-read 1 0x70700000 1
+read 1 0x41F00000 1
 read 1 0x4A2A000 1
 read 1 0x4A82000 1
 write 1 0x4A7E000 01
@@ -2242,8 +2242,8 @@ read 1 0x124000 1
 age 1
 exec 1 0x110000
 read 1 0x4A2A000 1
-write 1 0x70700000 01
-write 1 0x706FE000 01
+write 1 0x41F00000 01
+write 1 0x41EFE000 01
 read 1 0x4035000 1
 read 1 0x124000 1
 read 1 0x4A2D000 1
@@ -2255,11 +2255,11 @@ write 1 0x4A7F000 01
 age 1
 exec 1 0x11A000
 read 1 0x4A2D000 1
-read 1 0x706FE000 1
+read 1 0x41EFE000 1
 exec 1 0x110000
 exec 1 0x111000
 read 1 0x4035000 1
-read 1 0x70700000 1
+read 1 0x41F00000 1
 read 1 0x4A2A000 1
 read 1 0x4A7F000 1
 write 1 0x4A82000 01
@@ -2270,13 +2270,13 @@ read 1 0x4A83000 1
 write 1 0x4A83000 01
 age 1
 exec 1 0x110000
-write 1 0x706FE000 01
+write 1 0x41EFE000 01
 read 1 0x4035000 1
 read 1 0x4A2D000 1
 read 1 0x124000 1
 exec 1 0x11A000
 exec 1 0x111000
-read 1 0x70700000 1
+read 1 0x41F00000 1
 read 1 0x4A2A000 1
 read 1 0x4A82000 1
 write 1 0x4A83000 01
@@ -2284,13 +2284,13 @@ read 1 0x4A7F000 1
 exec 1 0x10B000
 exec 1 0x499A000
 age 1
-write 1 0x70700000 01
+write 1 0x41F00000 01
 exec 1 0x111000
 read 1 0x124000 1
 exec 1 0x110000
 read 1 0x4A7F000 1
 read 1 0x4A83000 1
-write 1 0x706FE000 01
+write 1 0x41EFE000 01
 read 1 0x4A2A000 1
 read 1 0x4035000 1
 read 1 0x4A2D000 1
@@ -2301,11 +2301,11 @@ read 1 0x4A82000 1
 age 1
 exec 1 0x11A000
 read 1 0x4A2D000 1
-read 1 0x706FE000 1
+read 1 0x41EFE000 1
 exec 1 0x110000
 exec 1 0x111000
 read 1 0x4035000 1
-read 1 0x70700000 1
+read 1 0x41F00000 1
 read 1 0x4A2A000 1
 read 1 0x4A7F000 1
 write 1 0x4A83000 01
@@ -2314,25 +2314,25 @@ read 1 0x4A82000 1
 exec 1 0x10B000
 exec 1 0x499A000
 age 1
-write 1 0x706FE000 01
+write 1 0x41EFE000 01
 exec 1 0x110000
 read 1 0x124000 1
 exec 1 0x11A000
 read 1 0x4A2D000 1
 exec 1 0x111000
 read 1 0x4035000 1
-read 1 0x70700000 1
+read 1 0x41F00000 1
 read 1 0x4A2A000 1
 read 1 0x4A7F000 1
 read 1 0x4A83000 1
 age 1
 exec 1 0x11A000
 read 1 0x4A2D000 1
-read 1 0x706FE000 1
+read 1 0x41EFE000 1
 exec 1 0x110000
 exec 1 0x111000
 read 1 0x4035000 1
-read 1 0x70700000 1
+read 1 0x41F00000 1
 read 1 0x4A2A000 1
 read 1 0x4A7F000 1
 read 1 0x124000 1
@@ -2342,11 +2342,11 @@ exec 1 0x499A000
 age 1
 exec 1 0x11A000
 read 1 0x4A2D000 1
-read 1 0x706FE000 1
+read 1 0x41EFE000 1
 exec 1 0x110000
 exec 1 0x111000
 read 1 0x4035000 1
-read 1 0x70700000 1
+read 1 0x41F00000 1
 read 1 0x4A2A000 1
 read 1 0x4A7F000 1
 read 1 0x124000 1
@@ -2355,13 +2355,13 @@ exec 1 0x10B000
 exec 1 0x499A000
 read 1 0x4A1B000 1
 age 1
-read 1 0x70700000 1
+read 1 0x41F00000 1
 exec 1 0x111000
 read 1 0x4A7F000 1
 read 1 0x124000 1
 exec 1 0x110000
 read 1 0x4A83000 1
-write 1 0x706FE000 01
+write 1 0x41EFE000 01
 read 1 0x4A2A000 1
 read 1 0x4035000 1
 read 1 0x4A2D000 1
@@ -2371,11 +2371,11 @@ exec 1 0x499A000
 age 1
 exec 1 0x11A000
 read 1 0x4A2D000 1
-read 1 0x706FE000 1
+read 1 0x41EFE000 1
 exec 1 0x110000
 exec 1 0x111000
 read 1 0x4035000 1
-read 1 0x70700000 1
+read 1 0x41F00000 1
 read 1 0x4A2A000 1
 read 1 0x4A7F000 1
 write 1 0x4A83000 01
@@ -2383,12 +2383,12 @@ read 1 0x124000 1
 read 1 0x4A82000 1
 age 1
 exec 1 0x111000
-write 1 0x70700000 01
+write 1 0x41F00000 01
 read 1 0x124000 1
 exec 1 0x110000
 read 1 0x4A7F000 1
 read 1 0x4A82000 1
-write 1 0x706FE000 01
+write 1 0x41EFE000 01
 read 1 0x4A2A000 1
 read 1 0x4035000 1
 read 1 0x4A2D000 1
@@ -2399,11 +2399,11 @@ age 1
 exec 1 0x110000
 read 1 0x124000 1
 read 1 0x4035000 1
-write 1 0x706FE000 01
+write 1 0x41EFE000 01
 read 1 0x4A2D000 1
 exec 1 0x11A000
 exec 1 0x111000
-read 1 0x70700000 1
+read 1 0x41F00000 1
 read 1 0x4A2A000 1
 read 1 0x4A83000 1
 write 1 0x4A7F000 01
@@ -2411,11 +2411,11 @@ read 1 0x4A7E000 1
 age 1
 exec 1 0x11A000
 read 1 0x4A2D000 1
-read 1 0x706FE000 1
+read 1 0x41EFE000 1
 exec 1 0x110000
 exec 1 0x111000
 read 1 0x4035000 1
-read 1 0x70700000 1
+read 1 0x41F00000 1
 read 1 0x4A2A000 1
 read 1 0x4A83000 1
 write 1 0x4A7E000 01
@@ -2424,11 +2424,11 @@ read 1 0x124000 1
 age 1
 exec 1 0x111000
 read 1 0x4A7E000 1
-write 1 0x70700000 01
+write 1 0x41F00000 01
 read 1 0x124000 1
 exec 1 0x110000
 read 1 0x4A83000 1
-write 1 0x706FE000 01
+write 1 0x41EFE000 01
 read 1 0x4A2A000 1
 read 1 0x4035000 1
 read 1 0x4A2D000 1
@@ -2442,11 +2442,11 @@ age 1
 exec 1 0x110000
 read 1 0x124000 1
 read 1 0x4035000 1
-write 1 0x706FE000 01
+write 1 0x41EFE000 01
 read 1 0x4A2D000 1
 exec 1 0x11A000
 exec 1 0x111000
-read 1 0x70700000 1
+read 1 0x41F00000 1
 read 1 0x4A2A000 1
 read 1 0x4A82000 1
 write 1 0x4A83000 01
@@ -2454,10 +2454,10 @@ read 1 0x4A7F000 1
 age 1
 read 1 0x4A7F000 1
 exec 1 0x110000
-write 1 0x706FE000 01
+write 1 0x41EFE000 01
 read 1 0x4A82000 1
 read 1 0x4A2A000 1
-write 1 0x70700000 01
+write 1 0x41F00000 01
 read 1 0x4035000 1
 read 1 0x124000 1
 read 1 0x4A2D000 1
@@ -2467,11 +2467,11 @@ write 1 0x4A83000 01
 age 1
 exec 1 0x11A000
 read 1 0x4A2D000 1
-read 1 0x706FE000 1
+read 1 0x41EFE000 1
 exec 1 0x110000
 exec 1 0x111000
 read 1 0x4035000 1
-read 1 0x70700000 1
+read 1 0x41F00000 1
 read 1 0x4A2A000 1
 read 1 0x4A7F000 1
 write 1 0x4A82000 01
@@ -2481,22 +2481,22 @@ exec 1 0x110000
 write 1 0x4A2D000 01
 exec 1 0x111000
 read 1 0x4035000 1
-read 1 0x70700000 1
+read 1 0x41F00000 1
 read 1 0x4A2A000 1
 read 1 0x4A7F000 1
 write 1 0x4A82000 01
 read 1 0x124000 1
-write 1 0x706FE000 01
+write 1 0x41EFE000 01
 exec 1 0x11A000
 read 1 0x4A7E000 1
 read 1 0x4A81000 1
 age 1
 exec 1 0x110000
-write 1 0x70700000 01
+write 1 0x41F00000 01
 read 1 0x4A7E000 1
 read 1 0x4A81000 1
 read 1 0x124000 1
-write 1 0x706FE000 01
+write 1 0x41EFE000 01
 read 1 0x4A2A000 1
 read 1 0x4035000 1
 read 1 0x4A2D000 1
@@ -2506,11 +2506,11 @@ write 1 0x4A82000 01
 age 1
 exec 1 0x11A000
 read 1 0x4A2D000 1
-read 1 0x706FE000 1
+read 1 0x41EFE000 1
 exec 1 0x110000
 exec 1 0x111000
 read 1 0x4035000 1
-read 1 0x70700000 1
+read 1 0x41F00000 1
 read 1 0x4A2A000 1
 read 1 0x4A7E000 1
 write 1 0x4A82000 01
@@ -2518,23 +2518,23 @@ read 1 0x124000 1
 read 1 0x4A81000 1
 age 1
 exec 1 0x110000
-read 1 0x706FE000 1
+read 1 0x41EFE000 1
 write 1 0x4A2D000 01
 exec 1 0x111000
 read 1 0x4035000 1
-read 1 0x70700000 1
+read 1 0x41F00000 1
 read 1 0x4A2A000 1
 read 1 0x4A81000 1
 read 1 0x124000 1
 read 1 0x4A7E000 1
 exec 1 0x11A000
 age 1
-write 1 0x70700000 01
+write 1 0x41F00000 01
 exec 1 0x110000
 read 1 0x4A7E000 1
 read 1 0x4A81000 1
 read 1 0x124000 1
-write 1 0x706FE000 01
+write 1 0x41EFE000 01
 read 1 0x4A2A000 1
 read 1 0x4035000 1
 read 1 0x4A2D000 1
@@ -2548,11 +2548,11 @@ exec 1 0x499A000
 age 1
 exec 1 0x11A000
 read 1 0x4A2D000 1
-read 1 0x706FE000 1
+read 1 0x41EFE000 1
 exec 1 0x110000
 exec 1 0x111000
 read 1 0x4035000 1
-read 1 0x70700000 1
+read 1 0x41F00000 1
 read 1 0x4A2A000 1
 read 1 0x4A83000 1
 write 1 0x4A7D000 01
@@ -2561,12 +2561,12 @@ exec 1 0x10B000
 exec 1 0x499A000
 age 1
 exec 1 0x11A000
-read 1 0x706FE000 1
+read 1 0x41EFE000 1
 exec 1 0x110000
 write 1 0x4A2D000 01
 exec 1 0x111000
 read 1 0x4035000 1
-read 1 0x70700000 1
+read 1 0x41F00000 1
 read 1 0x4A2A000 1
 read 1 0x4A83000 1
 write 1 0x4A7D000 01
@@ -2577,11 +2577,11 @@ read 1 0x4A1B000 1
 age 1
 exec 1 0x11A000
 read 1 0x4A2D000 1
-read 1 0x706FE000 1
+read 1 0x41EFE000 1
 exec 1 0x110000
 exec 1 0x111000
 read 1 0x4035000 1
-read 1 0x70700000 1
+read 1 0x41F00000 1
 read 1 0x4A2A000 1
 read 1 0x4A83000 1
 write 1 0x4A7D000 01
@@ -2590,12 +2590,12 @@ exec 1 0x10B000
 exec 1 0x499A000
 age 1
 exec 1 0x111000
-read 1 0x70700000 1
+read 1 0x41F00000 1
 read 1 0x4A7D000 1
 read 1 0x124000 1
 exec 1 0x110000
 read 1 0x4A83000 1
-write 1 0x706FE000 01
+write 1 0x41EFE000 01
 read 1 0x4A2A000 1
 read 1 0x4035000 1
 read 1 0x4A2D000 1
@@ -2604,24 +2604,24 @@ exec 1 0x10B000
 exec 1 0x499A000
 age 1
 exec 1 0x111000
-write 1 0x70700000 01
+write 1 0x41F00000 01
 read 1 0x124000 1
 exec 1 0x110000
 read 1 0x4A7D000 1
 read 1 0x4A83000 1
-write 1 0x706FE000 01
+write 1 0x41EFE000 01
 read 1 0x4A2A000 1
 read 1 0x4035000 1
 read 1 0x4A2D000 1
 exec 1 0x11A000
 age 1
 exec 1 0x11A000
-read 1 0x706FE000 1
+read 1 0x41EFE000 1
 exec 1 0x110000
 write 1 0x4A2D000 01
 exec 1 0x111000
 read 1 0x4035000 1
-read 1 0x70700000 1
+read 1 0x41F00000 1
 read 1 0x4A2A000 1
 read 1 0x4A83000 1
 read 1 0x124000 1
@@ -2631,11 +2631,11 @@ exec 1 0x499A000
 age 1
 exec 1 0x11A000
 read 1 0x4A2D000 1
-read 1 0x706FE000 1
+read 1 0x41EFE000 1
 exec 1 0x110000
 exec 1 0x111000
 read 1 0x4035000 1
-read 1 0x70700000 1
+read 1 0x41F00000 1
 read 1 0x4A2A000 1
 read 1 0x4A83000 1
 read 1 0x124000 1
@@ -2645,13 +2645,13 @@ exec 1 0x499A000
 read 1 0x4A1B000 1
 age 1
 exec 1 0x110000
-read 1 0x70700000 1
+read 1 0x41F00000 1
 read 1 0x4A2A000 1
 exec 1 0x111000
 read 1 0x4A7D000 1
 write 1 0x4A83000 01
 read 1 0x124000 1
-write 1 0x706FE000 01
+write 1 0x41EFE000 01
 read 1 0x4035000 1
 read 1 0x4A2D000 1
 exec 1 0x11A000
@@ -2660,23 +2660,23 @@ exec 1 0x499A000
 age 1
 exec 1 0x11A000
 read 1 0x4A2D000 1
-read 1 0x706FE000 1
+read 1 0x41EFE000 1
 exec 1 0x110000
 exec 1 0x111000
 read 1 0x4035000 1
-read 1 0x70700000 1
+read 1 0x41F00000 1
 read 1 0x4A2A000 1
 read 1 0x4A7D000 1
 read 1 0x124000 1
 read 1 0x4A83000 1
 age 1
-read 1 0x70700000 1
+read 1 0x41F00000 1
 exec 1 0x110000
 exec 1 0x111000
 read 1 0x4A83000 1
 write 1 0x4A7D000 01
 read 1 0x124000 1
-write 1 0x706FE000 01
+write 1 0x41EFE000 01
 read 1 0x4A2A000 1
 read 1 0x4035000 1
 read 1 0x4A2D000 1
@@ -2689,11 +2689,11 @@ age 1
 exec 1 0x110000
 read 1 0x124000 1
 read 1 0x4035000 1
-write 1 0x706FE000 01
+write 1 0x41EFE000 01
 read 1 0x4A2D000 1
 exec 1 0x11A000
 exec 1 0x111000
-read 1 0x70700000 1
+read 1 0x41F00000 1
 read 1 0x4A2A000 1
 read 1 0x4A83000 1
 read 1 0x4A7E000 1
@@ -2704,8 +2704,8 @@ write 1 0x4A84000 01
 age 1
 exec 1 0x110000
 read 1 0x4A2A000 1
-write 1 0x70700000 01
-write 1 0x706FE000 01
+write 1 0x41F00000 01
+write 1 0x41EFE000 01
 read 1 0x4035000 1
 read 1 0x124000 1
 read 1 0x4A2D000 1
@@ -2718,11 +2718,11 @@ exec 1 0x499A000
 age 1
 exec 1 0x11A000
 read 1 0x4A2D000 1
-read 1 0x706FE000 1
+read 1 0x41EFE000 1
 exec 1 0x110000
 exec 1 0x111000
 read 1 0x4035000 1
-read 1 0x70700000 1
+read 1 0x41F00000 1
 read 1 0x4A2A000 1
 read 1 0x4A84000 1
 write 1 0x4A7E000 01
@@ -2732,12 +2732,12 @@ exec 1 0x499A000
 read 1 0x4A83000 1
 age 1
 exec 1 0x11A000
-read 1 0x706FE000 1
+read 1 0x41EFE000 1
 exec 1 0x110000
 write 1 0x4A2D000 01
 exec 1 0x111000
 read 1 0x4035000 1
-read 1 0x70700000 1
+read 1 0x41F00000 1
 read 1 0x4A2A000 1
 read 1 0x4A83000 1
 read 1 0x124000 1
@@ -2750,11 +2750,11 @@ age 1
 exec 1 0x110000
 read 1 0x4A2D000 1
 read 1 0x124000 1
-write 1 0x706FE000 01
+write 1 0x41EFE000 01
 exec 1 0x11A000
 exec 1 0x111000
 read 1 0x4035000 1
-read 1 0x70700000 1
+read 1 0x41F00000 1
 read 1 0x4A2A000 1
 read 1 0x4A7E000 1
 write 1 0x4A84000 01
@@ -2763,11 +2763,11 @@ exec 1 0x499A000
 age 1
 exec 1 0x11A000
 read 1 0x4A2D000 1
-read 1 0x706FE000 1
+read 1 0x41EFE000 1
 exec 1 0x110000
 exec 1 0x111000
 read 1 0x4035000 1
-read 1 0x70700000 1
+read 1 0x41F00000 1
 read 1 0x4A2A000 1
 read 1 0x4A7E000 1
 write 1 0x4A84000 01
@@ -2779,9 +2779,9 @@ read 1 0x4A84000 1
 exec 1 0x110000
 read 1 0x4A7E000 1
 read 1 0x124000 1
-write 1 0x706FE000 01
+write 1 0x41EFE000 01
 read 1 0x4A2A000 1
-write 1 0x70700000 01
+write 1 0x41F00000 01
 read 1 0x4035000 1
 read 1 0x4A2D000 1
 exec 1 0x11A000
@@ -2790,20 +2790,20 @@ age 1
 exec 1 0x111000
 exec 1 0x110000
 read 1 0x4035000 1
-read 1 0x70700000 1
+read 1 0x41F00000 1
 read 1 0x4A2A000 1
 read 1 0x4A7E000 1
 write 1 0x4A84000 01
 read 1 0x124000 1
-write 1 0x706FE000 01
+write 1 0x41EFE000 01
 read 1 0x4A2D000 1
 exec 1 0x11A000
 read 1 0x4A83000 1
 age 1
 exec 1 0x110000
 read 1 0x4A2A000 1
-write 1 0x70700000 01
-write 1 0x706FE000 01
+write 1 0x41F00000 01
+write 1 0x41EFE000 01
 read 1 0x4035000 1
 read 1 0x124000 1
 read 1 0x4A2D000 1
@@ -2817,11 +2817,11 @@ age 1
 exec 1 0x110000
 read 1 0x124000 1
 read 1 0x4035000 1
-write 1 0x706FE000 01
+write 1 0x41EFE000 01
 read 1 0x4A2D000 1
 exec 1 0x11A000
 exec 1 0x111000
-read 1 0x70700000 1
+read 1 0x41F00000 1
 read 1 0x4A2A000 1
 read 1 0x4A7D000 1
 write 1 0x4A7E000 01
@@ -2829,11 +2829,11 @@ read 1 0x4A84000 1
 age 1
 exec 1 0x11A000
 read 1 0x4A2D000 1
-read 1 0x706FE000 1
+read 1 0x41EFE000 1
 exec 1 0x110000
 exec 1 0x111000
 read 1 0x4035000 1
-read 1 0x70700000 1
+read 1 0x41F00000 1
 read 1 0x4A2A000 1
 read 1 0x4A7D000 1
 write 1 0x4A7E000 01
@@ -2843,10 +2843,10 @@ age 1
 exec 1 0x111000
 read 1 0x4A84000 1
 write 1 0x4A7D000 01
-write 1 0x70700000 01
+write 1 0x41F00000 01
 read 1 0x124000 1
 exec 1 0x110000
-write 1 0x706FE000 01
+write 1 0x41EFE000 01
 read 1 0x4A2A000 1
 read 1 0x4035000 1
 read 1 0x4A2D000 1
@@ -2856,11 +2856,11 @@ age 1
 exec 1 0x110000
 read 1 0x4A2D000 1
 read 1 0x124000 1
-write 1 0x706FE000 01
+write 1 0x41EFE000 01
 exec 1 0x11A000
 exec 1 0x111000
 read 1 0x4035000 1
-read 1 0x70700000 1
+read 1 0x41F00000 1
 read 1 0x4A2A000 1
 read 1 0x4A83000 1
 write 1 0x4A7D000 01
@@ -2870,11 +2870,11 @@ read 1 0x4A84000 1
 write 1 0x4A7F000 01
 age 1
 exec 1 0x111000
-read 1 0x70700000 1
+read 1 0x41F00000 1
 read 1 0x124000 1
 exec 1 0x110000
 read 1 0x4A84000 1
-write 1 0x706FE000 01
+write 1 0x41EFE000 01
 read 1 0x4A2A000 1
 read 1 0x4035000 1
 read 1 0x4A2D000 1
@@ -2884,11 +2884,11 @@ exec 1 0x10B000
 exec 1 0x499A000
 age 1
 exec 1 0x111000
-read 1 0x70700000 1
+read 1 0x41F00000 1
 read 1 0x124000 1
 exec 1 0x110000
 read 1 0x4A84000 1
-write 1 0x706FE000 01
+write 1 0x41EFE000 01
 read 1 0x4A2A000 1
 read 1 0x4035000 1
 read 1 0x4A2D000 1
@@ -2897,12 +2897,12 @@ write 1 0x4A7F000 01
 exec 1 0x10B000
 exec 1 0x499A000
 age 1
-read 1 0x706FE000 1
+read 1 0x41EFE000 1
 exec 1 0x110000
 write 1 0x4A2D000 01
 exec 1 0x111000
 read 1 0x4035000 1
-read 1 0x70700000 1
+read 1 0x41F00000 1
 read 1 0x4A2A000 1
 read 1 0x4A7F000 1
 read 1 0x124000 1
@@ -2911,12 +2911,12 @@ exec 1 0x11A000
 exec 1 0x10B000
 exec 1 0x499A000
 age 1
-write 1 0x70700000 01
+write 1 0x41F00000 01
 exec 1 0x110000
 read 1 0x4A7F000 1
 read 1 0x4A84000 1
 read 1 0x124000 1
-write 1 0x706FE000 01
+write 1 0x41EFE000 01
 read 1 0x4A2A000 1
 read 1 0x4035000 1
 read 1 0x4A2D000 1
@@ -2927,12 +2927,12 @@ exec 1 0x499A000
 read 1 0x4A1B000 1
 age 1
 exec 1 0x111000
-read 1 0x70700000 1
+read 1 0x41F00000 1
 read 1 0x4A84000 1
 write 1 0x4A7F000 01
 read 1 0x124000 1
 exec 1 0x110000
-write 1 0x706FE000 01
+write 1 0x41EFE000 01
 read 1 0x4A2A000 1
 read 1 0x4035000 1
 read 1 0x4A2D000 1
@@ -2942,11 +2942,11 @@ exec 1 0x499A000
 age 1
 write 1 0x4A7F000 01
 exec 1 0x111000
-read 1 0x70700000 1
+read 1 0x41F00000 1
 read 1 0x124000 1
 exec 1 0x110000
 read 1 0x4A84000 1
-write 1 0x706FE000 01
+write 1 0x41EFE000 01
 read 1 0x4A2A000 1
 read 1 0x4035000 1
 read 1 0x4A2D000 1
@@ -2955,10 +2955,10 @@ exec 1 0x10B000
 exec 1 0x499A000
 age 1
 exec 1 0x110000
-write 1 0x706FE000 01
+write 1 0x41EFE000 01
 read 1 0x4A84000 1
 read 1 0x4A2A000 1
-write 1 0x70700000 01
+write 1 0x41F00000 01
 read 1 0x4035000 1
 read 1 0x124000 1
 read 1 0x4A2D000 1
@@ -2970,11 +2970,11 @@ exec 1 0x499A000
 age 1
 exec 1 0x11A000
 read 1 0x4A2D000 1
-read 1 0x706FE000 1
+read 1 0x41EFE000 1
 exec 1 0x110000
 exec 1 0x111000
 read 1 0x4035000 1
-read 1 0x70700000 1
+read 1 0x41F00000 1
 read 1 0x4A2A000 1
 read 1 0x4A84000 1
 write 1 0x4A7F000 01
@@ -2983,25 +2983,25 @@ exec 1 0x10B000
 exec 1 0x499A000
 age 1
 exec 1 0x111000
-write 1 0x70700000 01
+write 1 0x41F00000 01
 read 1 0x124000 1
 exec 1 0x110000
 read 1 0x4A7F000 1
 read 1 0x4A84000 1
-write 1 0x706FE000 01
+write 1 0x41EFE000 01
 read 1 0x4A2A000 1
 read 1 0x4035000 1
 read 1 0x4A2D000 1
 exec 1 0x11A000
 age 1
 exec 1 0x110000
-write 1 0x706FE000 01
+write 1 0x41EFE000 01
 read 1 0x124000 1
 exec 1 0x11A000
 read 1 0x4A2D000 1
 exec 1 0x111000
 read 1 0x4035000 1
-read 1 0x70700000 1
+read 1 0x41F00000 1
 read 1 0x4A2A000 1
 read 1 0x4A7F000 1
 write 1 0x4A84000 01
@@ -3010,12 +3010,12 @@ exec 1 0x10B000
 exec 1 0x499A000
 age 1
 exec 1 0x110000
-read 1 0x70700000 1
+read 1 0x41F00000 1
 exec 1 0x111000
 read 1 0x4A84000 1
 read 1 0x124000 1
 read 1 0x4A7F000 1
-write 1 0x706FE000 01
+write 1 0x41EFE000 01
 read 1 0x4A2A000 1
 read 1 0x4035000 1
 read 1 0x4A2D000 1
@@ -3027,12 +3027,12 @@ read 1 0x4A85000 1
 write 1 0x4A85000 01
 age 1
 exec 1 0x111000
-write 1 0x70700000 01
+write 1 0x41F00000 01
 read 1 0x124000 1
 exec 1 0x110000
 read 1 0x4A7F000 1
 read 1 0x4A84000 1
-write 1 0x706FE000 01
+write 1 0x41EFE000 01
 read 1 0x4A2A000 1
 read 1 0x4035000 1
 read 1 0x4A2D000 1
@@ -3042,12 +3042,12 @@ exec 1 0x10B000
 exec 1 0x499A000
 age 1
 exec 1 0x11A000
-read 1 0x706FE000 1
+read 1 0x41EFE000 1
 exec 1 0x110000
 write 1 0x4A2D000 01
 exec 1 0x111000
 read 1 0x4035000 1
-read 1 0x70700000 1
+read 1 0x41F00000 1
 read 1 0x4A2A000 1
 read 1 0x4A7F000 1
 read 1 0x124000 1
@@ -3059,11 +3059,11 @@ exec 1 0x499A000
 age 1
 exec 1 0x11A000
 read 1 0x4A2D000 1
-read 1 0x706FE000 1
+read 1 0x41EFE000 1
 exec 1 0x110000
 exec 1 0x111000
 read 1 0x4035000 1
-read 1 0x70700000 1
+read 1 0x41F00000 1
 read 1 0x4A2A000 1
 read 1 0x4A85000 1
 write 1 0x4A7F000 01
@@ -3073,11 +3073,11 @@ exec 1 0x499A000
 age 1
 read 1 0x4A2D000 1
 exec 1 0x11A000
-read 1 0x706FE000 1
+read 1 0x41EFE000 1
 exec 1 0x110000
 exec 1 0x111000
 read 1 0x4035000 1
-read 1 0x70700000 1
+read 1 0x41F00000 1
 read 1 0x4A2A000 1
 read 1 0x4A7F000 1
 write 1 0x4A85000 01
@@ -3086,13 +3086,13 @@ exec 1 0x10B000
 exec 1 0x499A000
 age 1
 exec 1 0x110000
-write 1 0x706FE000 01
+write 1 0x41EFE000 01
 read 1 0x4035000 1
 read 1 0x124000 1
 read 1 0x4A2D000 1
 exec 1 0x11A000
 exec 1 0x111000
-read 1 0x70700000 1
+read 1 0x41F00000 1
 read 1 0x4A2A000 1
 read 1 0x4A85000 1
 read 1 0x4A7F000 1
@@ -3101,35 +3101,35 @@ exec 1 0x499A000
 age 1
 read 1 0x124000 1
 exec 1 0x110000
-write 1 0x706FE000 01
+write 1 0x41EFE000 01
 exec 1 0x11A000
 read 1 0x4A2D000 1
 exec 1 0x111000
 read 1 0x4035000 1
-read 1 0x70700000 1
+read 1 0x41F00000 1
 read 1 0x4A2A000 1
 read 1 0x4A7F000 1
 write 1 0x4A85000 01
 age 1
 exec 1 0x111000
-write 1 0x70700000 01
+write 1 0x41F00000 01
 read 1 0x124000 1
 exec 1 0x110000
 read 1 0x4A85000 1
 read 1 0x4A7F000 1
-write 1 0x706FE000 01
+write 1 0x41EFE000 01
 read 1 0x4A2A000 1
 read 1 0x4035000 1
 read 1 0x4A2D000 1
 exec 1 0x11A000
 age 1
 exec 1 0x110000
-write 1 0x706FE000 01
+write 1 0x41EFE000 01
 exec 1 0x11A000
 read 1 0x4A2D000 1
 exec 1 0x111000
 read 1 0x4035000 1
-read 1 0x70700000 1
+read 1 0x41F00000 1
 read 1 0x4A2A000 1
 read 1 0x4A85000 1
 write 1 0x4A7F000 01
@@ -3139,12 +3139,12 @@ read 1 0x4A84000 1
 age 1
 exec 1 0x110000
 read 1 0x4A2D000 1
-write 1 0x706FE000 01
+write 1 0x41EFE000 01
 read 1 0x4035000 1
 read 1 0x124000 1
 exec 1 0x11A000
 exec 1 0x111000
-read 1 0x70700000 1
+read 1 0x41F00000 1
 read 1 0x4A2A000 1
 read 1 0x4A84000 1
 write 1 0x4A85000 01
@@ -3152,37 +3152,37 @@ read 1 0x4A7F000 1
 age 1
 exec 1 0x11A000
 read 1 0x4A2D000 1
-read 1 0x706FE000 1
+read 1 0x41EFE000 1
 exec 1 0x110000
 exec 1 0x111000
 read 1 0x4035000 1
-read 1 0x70700000 1
+read 1 0x41F00000 1
 read 1 0x4A2A000 1
 read 1 0x4A84000 1
 read 1 0x124000 1
 read 1 0x4A7F000 1
 age 1
 exec 1 0x111000
-write 1 0x70700000 01
+write 1 0x41F00000 01
 read 1 0x124000 1
 exec 1 0x110000
 read 1 0x4A7F000 1
 read 1 0x4A84000 1
-write 1 0x706FE000 01
+write 1 0x41EFE000 01
 read 1 0x4A2A000 1
 read 1 0x4035000 1
 read 1 0x4A2D000 1
 exec 1 0x11A000
 read 1 0x4A7E000 1
 age 1
-write 1 0x706FE000 01
+write 1 0x41EFE000 01
 exec 1 0x110000
 read 1 0x124000 1
 exec 1 0x11A000
 read 1 0x4A2D000 1
 exec 1 0x111000
 read 1 0x4035000 1
-read 1 0x70700000 1
+read 1 0x41F00000 1
 read 1 0x4A2A000 1
 read 1 0x4A7E000 1
 write 1 0x4A84000 01
@@ -3193,9 +3193,9 @@ read 1 0x4A85000 1
 exec 1 0x110000
 read 1 0x4A7E000 1
 read 1 0x124000 1
-write 1 0x706FE000 01
+write 1 0x41EFE000 01
 read 1 0x4A2A000 1
-write 1 0x70700000 01
+write 1 0x41F00000 01
 read 1 0x4035000 1
 read 1 0x4A2D000 1
 exec 1 0x11A000
@@ -3204,23 +3204,23 @@ write 1 0x4A7F000 01
 age 1
 exec 1 0x11A000
 read 1 0x4A2D000 1
-read 1 0x706FE000 1
+read 1 0x41EFE000 1
 exec 1 0x110000
 exec 1 0x111000
 read 1 0x4035000 1
-read 1 0x70700000 1
+read 1 0x41F00000 1
 read 1 0x4A2A000 1
 read 1 0x4A85000 1
 write 1 0x4A7E000 01
 read 1 0x124000 1
 read 1 0x4A84000 1
 age 1
-read 1 0x706FE000 1
+read 1 0x41EFE000 1
 exec 1 0x110000
 write 1 0x4A2D000 01
 exec 1 0x111000
 read 1 0x4035000 1
-read 1 0x70700000 1
+read 1 0x41F00000 1
 read 1 0x4A2A000 1
 read 1 0x4A7E000 1
 read 1 0x124000 1
@@ -3229,11 +3229,11 @@ exec 1 0x11A000
 read 1 0x4A7D000 1
 age 1
 exec 1 0x110000
-write 1 0x70700000 01
+write 1 0x41F00000 01
 read 1 0x4A84000 1
 read 1 0x4A7D000 1
 read 1 0x124000 1
-write 1 0x706FE000 01
+write 1 0x41EFE000 01
 read 1 0x4A2A000 1
 read 1 0x4035000 1
 read 1 0x4A2D000 1
@@ -3241,13 +3241,13 @@ exec 1 0x11A000
 exec 1 0x111000
 write 1 0x4A7E000 01
 age 1
-write 1 0x706FE000 01
+write 1 0x41EFE000 01
 exec 1 0x11A000
 read 1 0x4A2D000 1
 exec 1 0x110000
 exec 1 0x111000
 read 1 0x4035000 1
-read 1 0x70700000 1
+read 1 0x41F00000 1
 read 1 0x4A2A000 1
 read 1 0x4A7D000 1
 write 1 0x4A7E000 01
@@ -3255,12 +3255,12 @@ read 1 0x124000 1
 read 1 0x4A84000 1
 age 1
 exec 1 0x11A000
-read 1 0x706FE000 1
+read 1 0x41EFE000 1
 exec 1 0x110000
 write 1 0x4A2D000 01
 exec 1 0x111000
 read 1 0x4035000 1
-read 1 0x70700000 1
+read 1 0x41F00000 1
 read 1 0x4A2A000 1
 read 1 0x4A7D000 1
 read 1 0x124000 1
@@ -3268,11 +3268,11 @@ read 1 0x4A84000 1
 age 1
 exec 1 0x111000
 read 1 0x124000 1
-write 1 0x70700000 01
+write 1 0x41F00000 01
 exec 1 0x110000
 read 1 0x4A84000 1
 read 1 0x4A7D000 1
-write 1 0x706FE000 01
+write 1 0x41EFE000 01
 read 1 0x4A2A000 1
 read 1 0x4035000 1
 read 1 0x4A2D000 1
@@ -3287,8 +3287,8 @@ age 1
 read 1 0x4A83000 1
 exec 1 0x110000
 read 1 0x4A2A000 1
-write 1 0x70700000 01
-write 1 0x706FE000 01
+write 1 0x41F00000 01
+write 1 0x41EFE000 01
 read 1 0x4035000 1
 read 1 0x124000 1
 read 1 0x4A2D000 1
@@ -3300,11 +3300,11 @@ write 1 0x4A84000 01
 age 1
 exec 1 0x11A000
 read 1 0x4A2D000 1
-read 1 0x706FE000 1
+read 1 0x41EFE000 1
 exec 1 0x110000
 exec 1 0x111000
 read 1 0x4035000 1
-read 1 0x70700000 1
+read 1 0x41F00000 1
 read 1 0x4A2A000 1
 read 1 0x4A7F000 1
 write 1 0x4A84000 01
@@ -3312,12 +3312,12 @@ read 1 0x124000 1
 read 1 0x4A83000 1
 age 1
 exec 1 0x111000
-write 1 0x70700000 01
+write 1 0x41F00000 01
 read 1 0x124000 1
 exec 1 0x110000
 read 1 0x4A7F000 1
 read 1 0x4A83000 1
-write 1 0x706FE000 01
+write 1 0x41EFE000 01
 read 1 0x4A2A000 1
 read 1 0x4035000 1
 read 1 0x4A2D000 1
@@ -3327,12 +3327,12 @@ read 1 0x4A82000 1
 age 1
 exec 1 0x110000
 read 1 0x4A2D000 1
-write 1 0x706FE000 01
+write 1 0x41EFE000 01
 read 1 0x4035000 1
 read 1 0x124000 1
 exec 1 0x11A000
 exec 1 0x111000
-read 1 0x70700000 1
+read 1 0x41F00000 1
 read 1 0x4A2A000 1
 read 1 0x4A7E000 1
 read 1 0x4A7F000 1
@@ -3341,11 +3341,11 @@ read 1 0x4A82000 1
 age 1
 exec 1 0x11A000
 read 1 0x4A2D000 1
-read 1 0x706FE000 1
+read 1 0x41EFE000 1
 exec 1 0x110000
 exec 1 0x111000
 read 1 0x4035000 1
-read 1 0x70700000 1
+read 1 0x41F00000 1
 read 1 0x4A2A000 1
 read 1 0x4A82000 1
 write 1 0x4A84000 01
@@ -3354,13 +3354,13 @@ read 1 0x4A7E000 1
 write 1 0x4A83000 01
 age 1
 exec 1 0x110000
-read 1 0x70700000 1
+read 1 0x41F00000 1
 exec 1 0x111000
 read 1 0x4A82000 1
 write 1 0x4A83000 01
 read 1 0x124000 1
 read 1 0x4A7E000 1
-write 1 0x706FE000 01
+write 1 0x41EFE000 01
 read 1 0x4A2A000 1
 read 1 0x4035000 1
 read 1 0x4A2D000 1
@@ -3368,8 +3368,8 @@ exec 1 0x11A000
 age 1
 exec 1 0x110000
 read 1 0x4A2A000 1
-write 1 0x70700000 01
-write 1 0x706FE000 01
+write 1 0x41F00000 01
+write 1 0x41EFE000 01
 read 1 0x4035000 1
 read 1 0x124000 1
 read 1 0x4A2D000 1
@@ -3381,23 +3381,23 @@ read 1 0x4A7E000 1
 age 1
 exec 1 0x11A000
 read 1 0x4A2D000 1
-read 1 0x706FE000 1
+read 1 0x41EFE000 1
 exec 1 0x110000
 exec 1 0x111000
 read 1 0x4035000 1
-read 1 0x70700000 1
+read 1 0x41F00000 1
 read 1 0x4A2A000 1
 read 1 0x4A7E000 1
 write 1 0x4A83000 01
 read 1 0x124000 1
 read 1 0x4A82000 1
 age 1
-read 1 0x706FE000 1
+read 1 0x41EFE000 1
 exec 1 0x110000
 write 1 0x4A2D000 01
 exec 1 0x111000
 read 1 0x4035000 1
-read 1 0x70700000 1
+read 1 0x41F00000 1
 read 1 0x4A2A000 1
 read 1 0x4A7E000 1
 write 1 0x4A83000 01
@@ -3406,11 +3406,11 @@ read 1 0x4A82000 1
 exec 1 0x11A000
 age 1
 exec 1 0x110000
-write 1 0x70700000 01
+write 1 0x41F00000 01
 read 1 0x4A7E000 1
 read 1 0x4A82000 1
 read 1 0x124000 1
-write 1 0x706FE000 01
+write 1 0x41EFE000 01
 read 1 0x4A2A000 1
 read 1 0x4035000 1
 read 1 0x4A2D000 1
@@ -3419,13 +3419,13 @@ exec 1 0x111000
 read 1 0x4A81000 1
 age 1
 exec 1 0x110000
-write 1 0x706FE000 01
+write 1 0x41EFE000 01
 read 1 0x124000 1
 exec 1 0x11A000
 read 1 0x4A2D000 1
 exec 1 0x111000
 read 1 0x4035000 1
-read 1 0x70700000 1
+read 1 0x41F00000 1
 read 1 0x4A2A000 1
 read 1 0x4A81000 1
 write 1 0x4A82000 01
@@ -3433,11 +3433,11 @@ read 1 0x4A7E000 1
 age 1
 exec 1 0x11A000
 read 1 0x4A2D000 1
-read 1 0x706FE000 1
+read 1 0x41EFE000 1
 exec 1 0x110000
 exec 1 0x111000
 read 1 0x4035000 1
-read 1 0x70700000 1
+read 1 0x41F00000 1
 read 1 0x4A2A000 1
 read 1 0x4A7E000 1
 write 1 0x4A82000 01
@@ -3447,12 +3447,12 @@ read 1 0x4A7D000 1
 age 1
 exec 1 0x111000
 read 1 0x4A81000 1
-write 1 0x70700000 01
+write 1 0x41F00000 01
 write 1 0x4A82000 01
 read 1 0x124000 1
 exec 1 0x110000
 read 1 0x4A7D000 1
-write 1 0x706FE000 01
+write 1 0x41EFE000 01
 read 1 0x4A2A000 1
 read 1 0x4035000 1
 read 1 0x4A2D000 1
@@ -3460,23 +3460,23 @@ exec 1 0x11A000
 age 1
 exec 1 0x110000
 read 1 0x4035000 1
-write 1 0x706FE000 01
+write 1 0x41EFE000 01
 read 1 0x4A2D000 1
 read 1 0x124000 1
 exec 1 0x11A000
 exec 1 0x111000
-read 1 0x70700000 1
+read 1 0x41F00000 1
 read 1 0x4A2A000 1
 read 1 0x4A81000 1
 read 1 0x4A7D000 1
 age 1
 exec 1 0x11A000
 read 1 0x4A2D000 1
-read 1 0x706FE000 1
+read 1 0x41EFE000 1
 exec 1 0x110000
 exec 1 0x111000
 read 1 0x4035000 1
-read 1 0x70700000 1
+read 1 0x41F00000 1
 read 1 0x4A2A000 1
 read 1 0x4A7D000 1
 write 1 0x4A81000 01
@@ -3486,11 +3486,11 @@ exec 1 0x499A000
 exec 1 0x112000
 age 1
 exec 1 0x111000
-read 1 0x70700000 1
+read 1 0x41F00000 1
 read 1 0x124000 1
 exec 1 0x110000
 read 1 0x4A85000 1
-write 1 0x706FE000 01
+write 1 0x41EFE000 01
 read 1 0x4A2A000 1
 read 1 0x4035000 1
 read 1 0x4A2D000 1
@@ -3503,11 +3503,11 @@ age 1
 exec 1 0x499A000
 read 1 0x4A85000 1
 write 1 0x4A81000 01
-read 1 0x70700000 1
+read 1 0x41F00000 1
 exec 1 0x111000
 read 1 0x124000 1
 exec 1 0x110000
-write 1 0x706FE000 01
+write 1 0x41EFE000 01
 read 1 0x4A2A000 1
 read 1 0x4035000 1
 read 1 0x4A2D000 1
@@ -3518,11 +3518,11 @@ age 1
 exec 1 0x110000
 read 1 0x4A2D000 1
 read 1 0x124000 1
-write 1 0x706FE000 01
+write 1 0x41EFE000 01
 exec 1 0x11A000
 exec 1 0x111000
 read 1 0x4035000 1
-read 1 0x70700000 1
+read 1 0x41F00000 1
 read 1 0x4A2A000 1
 read 1 0x4A81000 1
 write 1 0x4A85000 01
@@ -3531,10 +3531,10 @@ exec 1 0x499A000
 age 1
 exec 1 0x110000
 write 1 0x4A2D000 01
-read 1 0x706FE000 1
+read 1 0x41EFE000 1
 exec 1 0x111000
 read 1 0x4035000 1
-read 1 0x70700000 1
+read 1 0x41F00000 1
 read 1 0x4A2A000 1
 read 1 0x4A81000 1
 write 1 0x4A85000 01
@@ -3543,12 +3543,12 @@ exec 1 0x11A000
 age 1
 write 1 0x4A2D000 01
 exec 1 0x110000
-write 1 0x706FE000 01
+write 1 0x41EFE000 01
 read 1 0x4035000 1
 read 1 0x124000 1
 exec 1 0x11A000
 exec 1 0x111000
-read 1 0x70700000 1
+read 1 0x41F00000 1
 read 1 0x4A2A000 1
 read 1 0x4A85000 1
 write 1 0x4A81000 01
@@ -3558,10 +3558,10 @@ age 1
 exec 1 0x111000
 read 1 0x4A85000 1
 write 1 0x4A81000 01
-write 1 0x70700000 01
+write 1 0x41F00000 01
 read 1 0x124000 1
 exec 1 0x110000
-write 1 0x706FE000 01
+write 1 0x41EFE000 01
 read 1 0x4A2A000 1
 read 1 0x4035000 1
 read 1 0x4A2D000 1
@@ -3571,11 +3571,11 @@ exec 1 0x499A000
 age 1
 write 1 0x4A85000 01
 exec 1 0x111000
-read 1 0x70700000 1
+read 1 0x41F00000 1
 write 1 0x4A81000 01
 read 1 0x124000 1
 exec 1 0x110000
-write 1 0x706FE000 01
+write 1 0x41EFE000 01
 read 1 0x4A2A000 1
 read 1 0x4035000 1
 read 1 0x4A2D000 1
@@ -3584,37 +3584,37 @@ age 1
 exec 1 0x110000
 read 1 0x4A2D000 1
 read 1 0x124000 1
-write 1 0x706FE000 01
+write 1 0x41EFE000 01
 exec 1 0x11A000
 exec 1 0x111000
 read 1 0x4035000 1
-read 1 0x70700000 1
+read 1 0x41F00000 1
 read 1 0x4A2A000 1
 read 1 0x4A85000 1
 write 1 0x4A81000 01
 exec 1 0x10B000
 exec 1 0x499A000
 age 1
-read 1 0x70700000 1
+read 1 0x41F00000 1
 exec 1 0x110000
 exec 1 0x111000
 read 1 0x4A85000 1
 read 1 0x124000 1
 read 1 0x4A81000 1
-write 1 0x706FE000 01
+write 1 0x41EFE000 01
 read 1 0x4A2A000 1
 read 1 0x4035000 1
 read 1 0x4A2D000 1
 exec 1 0x11A000
 age 1
-write 1 0x706FE000 01
+write 1 0x41EFE000 01
 exec 1 0x110000
 read 1 0x4035000 1
 read 1 0x124000 1
 read 1 0x4A2D000 1
 exec 1 0x11A000
 exec 1 0x111000
-read 1 0x70700000 1
+read 1 0x41F00000 1
 read 1 0x4A2A000 1
 read 1 0x4A81000 1
 write 1 0x4A85000 01
@@ -3625,12 +3625,12 @@ exec 1 0x499A000
 age 1
 read 1 0x124000 1
 exec 1 0x110000
-write 1 0x706FE000 01
+write 1 0x41EFE000 01
 exec 1 0x11A000
 read 1 0x4A2D000 1
 exec 1 0x111000
 read 1 0x4035000 1
-read 1 0x70700000 1
+read 1 0x41F00000 1
 read 1 0x4A2A000 1
 read 1 0x4A81000 1
 write 1 0x4A85000 01
@@ -3638,11 +3638,11 @@ read 1 0x4A80000 1
 age 1
 exec 1 0x11A000
 read 1 0x4A2D000 1
-read 1 0x706FE000 1
+read 1 0x41EFE000 1
 exec 1 0x110000
 exec 1 0x111000
 read 1 0x4035000 1
-read 1 0x70700000 1
+read 1 0x41F00000 1
 read 1 0x4A2A000 1
 read 1 0x4A81000 1
 write 1 0x4A85000 01
@@ -3654,11 +3654,11 @@ write 1 0x4A86000 01
 age 1
 exec 1 0x11A000
 read 1 0x4A2D000 1
-read 1 0x706FE000 1
+read 1 0x41EFE000 1
 exec 1 0x110000
 exec 1 0x111000
 read 1 0x4035000 1
-read 1 0x70700000 1
+read 1 0x41F00000 1
 read 1 0x4A2A000 1
 read 1 0x4A81000 1
 write 1 0x4A86000 01
@@ -3669,8 +3669,8 @@ age 1
 exec 1 0x110000
 read 1 0x4A80000 1
 read 1 0x4A2A000 1
-write 1 0x70700000 01
-write 1 0x706FE000 01
+write 1 0x41F00000 01
+write 1 0x41EFE000 01
 read 1 0x4035000 1
 read 1 0x124000 1
 read 1 0x4A2D000 1
@@ -3682,12 +3682,12 @@ write 1 0x4A81000 01
 exec 1 0x10B000
 exec 1 0x499A000
 age 1
-read 1 0x706FE000 1
+read 1 0x41EFE000 1
 exec 1 0x110000
 write 1 0x4A2D000 01
 exec 1 0x111000
 read 1 0x4035000 1
-read 1 0x70700000 1
+read 1 0x41F00000 1
 read 1 0x4A2A000 1
 read 1 0x4A81000 1
 write 1 0x4A86000 01
@@ -3697,11 +3697,11 @@ exec 1 0x10B000
 exec 1 0x499A000
 age 1
 exec 1 0x110000
-read 1 0x706FE000 1
+read 1 0x41EFE000 1
 write 1 0x4A2D000 01
 exec 1 0x111000
 read 1 0x4035000 1
-read 1 0x70700000 1
+read 1 0x41F00000 1
 read 1 0x4A2A000 1
 read 1 0x4A81000 1
 write 1 0x4A86000 01
@@ -3711,13 +3711,13 @@ exec 1 0x10B000
 exec 1 0x499A000
 read 1 0x4A1B000 1
 age 1
-read 1 0x70700000 1
+read 1 0x41F00000 1
 exec 1 0x111000
 read 1 0x4A81000 1
 write 1 0x4A86000 01
 read 1 0x124000 1
 exec 1 0x110000
-write 1 0x706FE000 01
+write 1 0x41EFE000 01
 read 1 0x4A2A000 1
 read 1 0x4035000 1
 read 1 0x4A2D000 1
@@ -3728,24 +3728,24 @@ read 1 0x4A1B000 1
 age 1
 exec 1 0x11A000
 read 1 0x4A2D000 1
-read 1 0x706FE000 1
+read 1 0x41EFE000 1
 exec 1 0x110000
 exec 1 0x111000
 read 1 0x4035000 1
-read 1 0x70700000 1
+read 1 0x41F00000 1
 read 1 0x4A2A000 1
 read 1 0x4A81000 1
 read 1 0x124000 1
 read 1 0x4A86000 1
 age 1
-read 1 0x70700000 1
+read 1 0x41F00000 1
 exec 1 0x110000
 read 1 0x4A2A000 1
 exec 1 0x111000
 read 1 0x4A86000 1
 write 1 0x4A81000 01
 read 1 0x124000 1
-write 1 0x706FE000 01
+write 1 0x41EFE000 01
 read 1 0x4035000 1
 read 1 0x4A2D000 1
 exec 1 0x11A000
@@ -3756,11 +3756,11 @@ read 1 0x4A85000 1
 age 1
 exec 1 0x11A000
 read 1 0x4A2D000 1
-read 1 0x706FE000 1
+read 1 0x41EFE000 1
 exec 1 0x110000
 exec 1 0x111000
 read 1 0x4035000 1
-read 1 0x70700000 1
+read 1 0x41F00000 1
 read 1 0x4A2A000 1
 read 1 0x4A81000 1
 write 1 0x4A86000 01
@@ -3768,12 +3768,12 @@ read 1 0x124000 1
 read 1 0x4A85000 1
 age 1
 exec 1 0x111000
-write 1 0x70700000 01
+write 1 0x41F00000 01
 read 1 0x124000 1
 exec 1 0x110000
 read 1 0x4A81000 1
 read 1 0x4A85000 1
-write 1 0x706FE000 01
+write 1 0x41EFE000 01
 read 1 0x4A2A000 1
 read 1 0x4035000 1
 read 1 0x4A2D000 1
@@ -3781,23 +3781,23 @@ exec 1 0x11A000
 age 1
 read 1 0x124000 1
 exec 1 0x110000
-write 1 0x706FE000 01
+write 1 0x41EFE000 01
 exec 1 0x11A000
 read 1 0x4A2D000 1
 exec 1 0x111000
 read 1 0x4035000 1
-read 1 0x70700000 1
+read 1 0x41F00000 1
 read 1 0x4A2A000 1
 read 1 0x4A81000 1
 write 1 0x4A85000 01
 read 1 0x4A80000 1
 age 1
-read 1 0x706FE000 1
+read 1 0x41EFE000 1
 exec 1 0x110000
 write 1 0x4A2D000 01
 exec 1 0x111000
 read 1 0x4035000 1
-read 1 0x70700000 1
+read 1 0x41F00000 1
 read 1 0x4A2A000 1
 read 1 0x4A85000 1
 read 1 0x124000 1
@@ -3807,10 +3807,10 @@ read 1 0x4A86000 1
 age 1
 exec 1 0x110000
 write 1 0x4A2D000 01
-read 1 0x706FE000 1
+read 1 0x41EFE000 1
 exec 1 0x111000
 read 1 0x4035000 1
-read 1 0x70700000 1
+read 1 0x41F00000 1
 read 1 0x4A2A000 1
 read 1 0x4A80000 1
 read 1 0x124000 1
@@ -3820,12 +3820,12 @@ exec 1 0x10B000
 exec 1 0x499A000
 age 1
 exec 1 0x111000
-write 1 0x70700000 01
+write 1 0x41F00000 01
 read 1 0x124000 1
 exec 1 0x110000
 read 1 0x4A86000 1
 read 1 0x4A80000 1
-write 1 0x706FE000 01
+write 1 0x41EFE000 01
 read 1 0x4A2A000 1
 read 1 0x4035000 1
 read 1 0x4A2D000 1
@@ -3833,13 +3833,13 @@ exec 1 0x11A000
 exec 1 0x10B000
 exec 1 0x499A000
 age 1
-read 1 0x70700000 1
+read 1 0x41F00000 1
 exec 1 0x111000
 read 1 0x4A86000 1
 write 1 0x4A80000 01
 read 1 0x124000 1
 exec 1 0x110000
-write 1 0x706FE000 01
+write 1 0x41EFE000 01
 read 1 0x4A2A000 1
 read 1 0x4035000 1
 read 1 0x4A2D000 1
@@ -3850,11 +3850,11 @@ age 1
 exec 1 0x110000
 read 1 0x124000 1
 read 1 0x4035000 1
-write 1 0x706FE000 01
+write 1 0x41EFE000 01
 read 1 0x4A2D000 1
 exec 1 0x11A000
 exec 1 0x111000
-read 1 0x70700000 1
+read 1 0x41F00000 1
 read 1 0x4A2A000 1
 read 1 0x4A80000 1
 read 1 0x4A86000 1
@@ -3864,12 +3864,12 @@ read 1 0x4A1B000 1
 age 1
 exec 1 0x110000
 read 1 0x124000 1
-write 1 0x706FE000 01
+write 1 0x41EFE000 01
 exec 1 0x11A000
 read 1 0x4A2D000 1
 exec 1 0x111000
 read 1 0x4035000 1
-read 1 0x70700000 1
+read 1 0x41F00000 1
 read 1 0x4A2A000 1
 read 1 0x4A86000 1
 read 1 0x4A80000 1
@@ -3878,11 +3878,11 @@ exec 1 0x499A000
 age 1
 exec 1 0x11A000
 read 1 0x4A2D000 1
-read 1 0x706FE000 1
+read 1 0x41EFE000 1
 exec 1 0x110000
 exec 1 0x111000
 read 1 0x4035000 1
-read 1 0x70700000 1
+read 1 0x41F00000 1
 read 1 0x4A2A000 1
 read 1 0x4A86000 1
 write 1 0x4A80000 01
@@ -3892,11 +3892,11 @@ exec 1 0x499A000
 age 1
 exec 1 0x111000
 read 1 0x124000 1
-write 1 0x70700000 01
+write 1 0x41F00000 01
 exec 1 0x110000
 read 1 0x4A86000 1
 read 1 0x4A80000 1
-write 1 0x706FE000 01
+write 1 0x41EFE000 01
 read 1 0x4A2A000 1
 read 1 0x4035000 1
 read 1 0x4A2D000 1
@@ -3906,11 +3906,11 @@ exec 1 0x499A000
 age 1
 exec 1 0x11A000
 read 1 0x4A2D000 1
-read 1 0x706FE000 1
+read 1 0x41EFE000 1
 exec 1 0x110000
 exec 1 0x111000
 read 1 0x4035000 1
-read 1 0x70700000 1
+read 1 0x41F00000 1
 read 1 0x4A2A000 1
 read 1 0x4A86000 1
 read 1 0x124000 1
@@ -3919,12 +3919,12 @@ exec 1 0x10B000
 exec 1 0x499A000
 age 1
 exec 1 0x111000
-read 1 0x70700000 1
+read 1 0x41F00000 1
 read 1 0x4A80000 1
 read 1 0x124000 1
 exec 1 0x110000
 read 1 0x4A86000 1
-write 1 0x706FE000 01
+write 1 0x41EFE000 01
 read 1 0x4A2A000 1
 read 1 0x4035000 1
 read 1 0x4A2D000 1
@@ -3932,12 +3932,12 @@ exec 1 0x11A000
 age 1
 write 1 0x4A2D000 01
 exec 1 0x110000
-write 1 0x706FE000 01
+write 1 0x41EFE000 01
 read 1 0x4035000 1
 read 1 0x124000 1
 exec 1 0x11A000
 exec 1 0x111000
-read 1 0x70700000 1
+read 1 0x41F00000 1
 read 1 0x4A2A000 1
 read 1 0x4A80000 1
 read 1 0x4A86000 1
@@ -3945,13 +3945,13 @@ exec 1 0x10B000
 exec 1 0x499A000
 write 1 0x4A81000 01
 age 1
-read 1 0x70700000 1
+read 1 0x41F00000 1
 exec 1 0x110000
 exec 1 0x111000
 read 1 0x4A86000 1
 write 1 0x4A81000 01
 read 1 0x124000 1
-write 1 0x706FE000 01
+write 1 0x41EFE000 01
 read 1 0x4A2A000 1
 read 1 0x4035000 1
 read 1 0x4A2D000 1
@@ -3960,11 +3960,11 @@ exec 1 0x10B000
 exec 1 0x499A000
 age 1
 exec 1 0x110000
-write 1 0x70700000 01
+write 1 0x41F00000 01
 read 1 0x4A86000 1
 read 1 0x4A81000 1
 read 1 0x124000 1
-write 1 0x706FE000 01
+write 1 0x41EFE000 01
 read 1 0x4A2A000 1
 read 1 0x4035000 1
 read 1 0x4A2D000 1
@@ -3977,11 +3977,11 @@ exec 1 0x499A000
 age 1
 exec 1 0x11A000
 read 1 0x4A2D000 1
-read 1 0x706FE000 1
+read 1 0x41EFE000 1
 exec 1 0x110000
 exec 1 0x111000
 read 1 0x4035000 1
-read 1 0x70700000 1
+read 1 0x41F00000 1
 read 1 0x4A2A000 1
 read 1 0x4A86000 1
 write 1 0x4A81000 01
@@ -3990,12 +3990,12 @@ write 1 0x4A87000 01
 age 1
 read 1 0x124000 1
 exec 1 0x110000
-write 1 0x706FE000 01
+write 1 0x41EFE000 01
 exec 1 0x11A000
 read 1 0x4A2D000 1
 exec 1 0x111000
 read 1 0x4035000 1
-read 1 0x70700000 1
+read 1 0x41F00000 1
 read 1 0x4A2A000 1
 read 1 0x4A81000 1
 read 1 0x4A87000 1
@@ -4004,35 +4004,35 @@ exec 1 0x499A000
 age 1
 write 1 0x4A2D000 01
 exec 1 0x110000
-write 1 0x706FE000 01
+write 1 0x41EFE000 01
 read 1 0x4035000 1
 read 1 0x124000 1
 exec 1 0x11A000
 exec 1 0x111000
-read 1 0x70700000 1
+read 1 0x41F00000 1
 read 1 0x4A2A000 1
 read 1 0x4A81000 1
 read 1 0x4A87000 1
 age 1
 exec 1 0x111000
-read 1 0x70700000 1
+read 1 0x41F00000 1
 read 1 0x4A87000 1
 write 1 0x4A81000 01
 read 1 0x124000 1
 exec 1 0x110000
-write 1 0x706FE000 01
+write 1 0x41EFE000 01
 read 1 0x4A2A000 1
 read 1 0x4035000 1
 read 1 0x4A2D000 1
 exec 1 0x11A000
 age 1
 exec 1 0x110000
-read 1 0x70700000 1
+read 1 0x41F00000 1
 exec 1 0x111000
 read 1 0x4A87000 1
 write 1 0x4A81000 01
 read 1 0x124000 1
-write 1 0x706FE000 01
+write 1 0x41EFE000 01
 read 1 0x4A2A000 1
 read 1 0x4035000 1
 read 1 0x4A2D000 1
@@ -4043,11 +4043,11 @@ read 1 0x4A86000 1
 age 1
 exec 1 0x11A000
 read 1 0x4A2D000 1
-read 1 0x706FE000 1
+read 1 0x41EFE000 1
 exec 1 0x110000
 exec 1 0x111000
 read 1 0x4035000 1
-read 1 0x70700000 1
+read 1 0x41F00000 1
 read 1 0x4A2A000 1
 read 1 0x4A86000 1
 write 1 0x4A87000 01
@@ -4057,10 +4057,10 @@ age 1
 exec 1 0x111000
 read 1 0x4A81000 1
 write 1 0x4A86000 01
-write 1 0x70700000 01
+write 1 0x41F00000 01
 read 1 0x124000 1
 exec 1 0x110000
-write 1 0x706FE000 01
+write 1 0x41EFE000 01
 read 1 0x4A2A000 1
 read 1 0x4035000 1
 read 1 0x4A2D000 1
@@ -4072,12 +4072,12 @@ read 1 0x4A87000 1
 read 1 0x4A80000 1
 age 1
 exec 1 0x111000
-write 1 0x70700000 01
+write 1 0x41F00000 01
 read 1 0x124000 1
 exec 1 0x110000
 read 1 0x4A87000 1
 read 1 0x4A80000 1
-write 1 0x706FE000 01
+write 1 0x41EFE000 01
 read 1 0x4A2A000 1
 read 1 0x4035000 1
 read 1 0x4A2D000 1
@@ -4085,13 +4085,13 @@ exec 1 0x11A000
 write 1 0x4A81000 01
 age 1
 exec 1 0x110000
-write 1 0x706FE000 01
+write 1 0x41EFE000 01
 read 1 0x124000 1
 exec 1 0x11A000
 read 1 0x4A2D000 1
 exec 1 0x111000
 read 1 0x4035000 1
-read 1 0x70700000 1
+read 1 0x41F00000 1
 read 1 0x4A2A000 1
 read 1 0x4A87000 1
 write 1 0x4A80000 01
@@ -4099,23 +4099,23 @@ write 1 0x4A81000 01
 read 1 0x4A86000 1
 age 1
 exec 1 0x11A000
-read 1 0x706FE000 1
+read 1 0x41EFE000 1
 exec 1 0x110000
 write 1 0x4A2D000 01
 exec 1 0x111000
 read 1 0x4035000 1
-read 1 0x70700000 1
+read 1 0x41F00000 1
 read 1 0x4A2A000 1
 read 1 0x4A80000 1
 read 1 0x124000 1
 read 1 0x4A86000 1
 age 1
-write 1 0x70700000 01
+write 1 0x41F00000 01
 exec 1 0x110000
 read 1 0x4A86000 1
 read 1 0x4A80000 1
 read 1 0x124000 1
-write 1 0x706FE000 01
+write 1 0x41EFE000 01
 read 1 0x4A2A000 1
 read 1 0x4035000 1
 read 1 0x4A2D000 1
@@ -4127,13 +4127,13 @@ read 1 0x4A81000 1
 write 1 0x4A87000 01
 age 1
 exec 1 0x110000
-read 1 0x70700000 1
+read 1 0x41F00000 1
 exec 1 0x111000
 read 1 0x4A86000 1
 write 1 0x4A87000 01
 read 1 0x124000 1
 read 1 0x4A81000 1
-write 1 0x706FE000 01
+write 1 0x41EFE000 01
 read 1 0x4A2A000 1
 read 1 0x4035000 1
 read 1 0x4A2D000 1
@@ -4142,8 +4142,8 @@ age 1
 exec 1 0x110000
 read 1 0x4A86000 1
 read 1 0x4A2A000 1
-write 1 0x70700000 01
-write 1 0x706FE000 01
+write 1 0x41F00000 01
+write 1 0x41EFE000 01
 read 1 0x4035000 1
 read 1 0x124000 1
 read 1 0x4A2D000 1
@@ -4154,11 +4154,11 @@ read 1 0x4A85000 1
 age 1
 exec 1 0x11A000
 read 1 0x4A2D000 1
-read 1 0x706FE000 1
+read 1 0x41EFE000 1
 exec 1 0x110000
 exec 1 0x111000
 read 1 0x4035000 1
-read 1 0x70700000 1
+read 1 0x41F00000 1
 read 1 0x4A2A000 1
 read 1 0x4A81000 1
 write 1 0x4A86000 01
@@ -4169,20 +4169,20 @@ age 1
 exec 1 0x111000
 exec 1 0x110000
 read 1 0x4035000 1
-read 1 0x70700000 1
+read 1 0x41F00000 1
 read 1 0x4A2A000 1
 read 1 0x4A85000 1
 write 1 0x4A86000 01
 read 1 0x124000 1
 read 1 0x4A80000 1
-write 1 0x706FE000 01
+write 1 0x41EFE000 01
 read 1 0x4A2D000 1
 exec 1 0x11A000
 age 1
 exec 1 0x110000
 read 1 0x4A2A000 1
-write 1 0x70700000 01
-write 1 0x706FE000 01
+write 1 0x41F00000 01
+write 1 0x41EFE000 01
 read 1 0x4035000 1
 read 1 0x124000 1
 read 1 0x4A2D000 1
@@ -4194,11 +4194,11 @@ read 1 0x4A85000 1
 age 1
 exec 1 0x11A000
 read 1 0x4A2D000 1
-read 1 0x706FE000 1
+read 1 0x41EFE000 1
 exec 1 0x110000
 exec 1 0x111000
 read 1 0x4035000 1
-read 1 0x70700000 1
+read 1 0x41F00000 1
 read 1 0x4A2A000 1
 read 1 0x4A85000 1
 read 1 0x124000 1
@@ -4206,12 +4206,12 @@ read 1 0x4A80000 1
 age 1
 read 1 0x4A2A000 1
 exec 1 0x110000
-read 1 0x70700000 1
+read 1 0x41F00000 1
 exec 1 0x111000
 read 1 0x4A80000 1
 write 1 0x4A85000 01
 read 1 0x124000 1
-write 1 0x706FE000 01
+write 1 0x41EFE000 01
 read 1 0x4035000 1
 read 1 0x4A2D000 1
 exec 1 0x11A000
@@ -4219,12 +4219,12 @@ read 1 0x4A87000 1
 write 1 0x4A7F000 01
 age 1
 exec 1 0x111000
-read 1 0x70700000 1
+read 1 0x41F00000 1
 read 1 0x4A87000 1
 write 1 0x4A7F000 01
 read 1 0x124000 1
 exec 1 0x110000
-write 1 0x706FE000 01
+write 1 0x41EFE000 01
 read 1 0x4A2A000 1
 read 1 0x4035000 1
 read 1 0x4A2D000 1
@@ -4234,12 +4234,12 @@ exec 1 0x499A000
 age 1
 exec 1 0x110000
 write 1 0x4A2D000 01
-write 1 0x706FE000 01
+write 1 0x41EFE000 01
 read 1 0x4035000 1
 read 1 0x124000 1
 exec 1 0x11A000
 exec 1 0x111000
-read 1 0x70700000 1
+read 1 0x41F00000 1
 read 1 0x4A2A000 1
 read 1 0x4A87000 1
 write 1 0x4A7F000 01
@@ -4248,11 +4248,11 @@ exec 1 0x499A000
 age 1
 exec 1 0x11A000
 read 1 0x4A2D000 1
-read 1 0x706FE000 1
+read 1 0x41EFE000 1
 exec 1 0x110000
 exec 1 0x111000
 read 1 0x4035000 1
-read 1 0x70700000 1
+read 1 0x41F00000 1
 read 1 0x4A2A000 1
 read 1 0x4A87000 1
 write 1 0x4A7F000 01
@@ -4261,11 +4261,11 @@ exec 1 0x10B000
 exec 1 0x499A000
 age 1
 exec 1 0x110000
-write 1 0x70700000 01
+write 1 0x41F00000 01
 read 1 0x4A87000 1
 read 1 0x4A7F000 1
 read 1 0x124000 1
-write 1 0x706FE000 01
+write 1 0x41EFE000 01
 read 1 0x4A2A000 1
 read 1 0x4035000 1
 read 1 0x4A2D000 1
@@ -4274,12 +4274,12 @@ exec 1 0x111000
 exec 1 0x10B000
 exec 1 0x499A000
 age 1
-write 1 0x70700000 01
+write 1 0x41F00000 01
 exec 1 0x110000
 read 1 0x4A87000 1
 read 1 0x4A7F000 1
 read 1 0x124000 1
-write 1 0x706FE000 01
+write 1 0x41EFE000 01
 read 1 0x4A2A000 1
 read 1 0x4035000 1
 read 1 0x4A2D000 1
@@ -4291,8 +4291,8 @@ age 1
 read 1 0x4A87000 1
 exec 1 0x110000
 read 1 0x4A2A000 1
-write 1 0x70700000 01
-write 1 0x706FE000 01
+write 1 0x41F00000 01
+write 1 0x41EFE000 01
 read 1 0x4035000 1
 read 1 0x124000 1
 read 1 0x4A2D000 1
@@ -4304,12 +4304,12 @@ exec 1 0x499A000
 age 1
 read 1 0x124000 1
 exec 1 0x110000
-write 1 0x706FE000 01
+write 1 0x41EFE000 01
 exec 1 0x11A000
 read 1 0x4A2D000 1
 exec 1 0x111000
 read 1 0x4035000 1
-read 1 0x70700000 1
+read 1 0x41F00000 1
 read 1 0x4A2A000 1
 read 1 0x4A87000 1
 write 1 0x4A7F000 01
@@ -4318,11 +4318,11 @@ exec 1 0x499A000
 age 1
 exec 1 0x11A000
 read 1 0x4A2D000 1
-read 1 0x706FE000 1
+read 1 0x41EFE000 1
 exec 1 0x110000
 exec 1 0x111000
 read 1 0x4035000 1
-read 1 0x70700000 1
+read 1 0x41F00000 1
 read 1 0x4A2A000 1
 read 1 0x4A7F000 1
 write 1 0x4A87000 01
@@ -4330,11 +4330,11 @@ read 1 0x124000 1
 age 1
 exec 1 0x111000
 read 1 0x124000 1
-write 1 0x70700000 01
+write 1 0x41F00000 01
 exec 1 0x110000
 read 1 0x4A87000 1
 read 1 0x4A7F000 1
-write 1 0x706FE000 01
+write 1 0x41EFE000 01
 read 1 0x4A2A000 1
 read 1 0x4035000 1
 read 1 0x4A2D000 1
@@ -4342,11 +4342,11 @@ exec 1 0x11A000
 age 1
 exec 1 0x11A000
 read 1 0x4A2D000 1
-read 1 0x706FE000 1
+read 1 0x41EFE000 1
 exec 1 0x110000
 exec 1 0x111000
 read 1 0x4035000 1
-read 1 0x70700000 1
+read 1 0x41F00000 1
 read 1 0x4A2A000 1
 read 1 0x4A87000 1
 write 1 0x4A7F000 01
@@ -4356,12 +4356,12 @@ exec 1 0x499A000
 write 1 0x4A80000 01
 age 1
 exec 1 0x111000
-write 1 0x70700000 01
+write 1 0x41F00000 01
 read 1 0x124000 1
 exec 1 0x110000
 read 1 0x4A80000 1
 read 1 0x4A87000 1
-write 1 0x706FE000 01
+write 1 0x41EFE000 01
 read 1 0x4A2A000 1
 read 1 0x4035000 1
 read 1 0x4A2D000 1
@@ -4372,11 +4372,11 @@ read 1 0x4A1B000 1
 age 1
 exec 1 0x11A000
 read 1 0x4A2D000 1
-read 1 0x706FE000 1
+read 1 0x41EFE000 1
 exec 1 0x110000
 exec 1 0x111000
 read 1 0x4035000 1
-read 1 0x70700000 1
+read 1 0x41F00000 1
 read 1 0x4A2A000 1
 read 1 0x4A87000 1
 write 1 0x4A80000 01
@@ -4388,11 +4388,11 @@ write 1 0x4A88000 01
 age 1
 exec 1 0x11A000
 read 1 0x4A2D000 1
-read 1 0x706FE000 1
+read 1 0x41EFE000 1
 exec 1 0x110000
 exec 1 0x111000
 read 1 0x4035000 1
-read 1 0x70700000 1
+read 1 0x41F00000 1
 read 1 0x4A2A000 1
 read 1 0x4A87000 1
 write 1 0x4A80000 01
@@ -4402,12 +4402,12 @@ exec 1 0x499A000
 write 1 0x4A88000 01
 age 1
 exec 1 0x111000
-write 1 0x70700000 01
+write 1 0x41F00000 01
 read 1 0x124000 1
 exec 1 0x110000
 read 1 0x4A80000 1
 read 1 0x4A87000 1
-write 1 0x706FE000 01
+write 1 0x41EFE000 01
 read 1 0x4A2A000 1
 read 1 0x4035000 1
 read 1 0x4A2D000 1
@@ -4418,11 +4418,11 @@ exec 1 0x499A000
 age 1
 exec 1 0x11A000
 read 1 0x4A2D000 1
-read 1 0x706FE000 1
+read 1 0x41EFE000 1
 exec 1 0x110000
 exec 1 0x111000
 read 1 0x4035000 1
-read 1 0x70700000 1
+read 1 0x41F00000 1
 read 1 0x4A2A000 1
 read 1 0x4A80000 1
 read 1 0x124000 1
@@ -4432,11 +4432,11 @@ exec 1 0x499A000
 age 1
 exec 1 0x11A000
 read 1 0x4A2D000 1
-read 1 0x706FE000 1
+read 1 0x41EFE000 1
 exec 1 0x110000
 exec 1 0x111000
 read 1 0x4035000 1
-read 1 0x70700000 1
+read 1 0x41F00000 1
 read 1 0x4A2A000 1
 read 1 0x4A80000 1
 read 1 0x124000 1
@@ -4448,20 +4448,20 @@ read 1 0x4A80000 1
 exec 1 0x110000
 read 1 0x4A88000 1
 read 1 0x124000 1
-write 1 0x706FE000 01
+write 1 0x41EFE000 01
 read 1 0x4A2A000 1
-write 1 0x70700000 01
+write 1 0x41F00000 01
 read 1 0x4035000 1
 read 1 0x4A2D000 1
 exec 1 0x11A000
 exec 1 0x111000
 age 1
-read 1 0x706FE000 1
+read 1 0x41EFE000 1
 exec 1 0x110000
 write 1 0x4A2D000 01
 exec 1 0x111000
 read 1 0x4035000 1
-read 1 0x70700000 1
+read 1 0x41F00000 1
 read 1 0x4A2A000 1
 read 1 0x4A80000 1
 read 1 0x124000 1
@@ -4470,12 +4470,12 @@ exec 1 0x11A000
 read 1 0x4A87000 1
 age 1
 exec 1 0x11A000
-read 1 0x706FE000 1
+read 1 0x41EFE000 1
 exec 1 0x110000
 write 1 0x4A2D000 01
 exec 1 0x111000
 read 1 0x4035000 1
-read 1 0x70700000 1
+read 1 0x41F00000 1
 read 1 0x4A2A000 1
 read 1 0x4A80000 1
 write 1 0x4A87000 01
@@ -4487,10 +4487,10 @@ read 1 0x4035000 1
 exec 1 0x110000
 read 1 0x4A2D000 1
 read 1 0x124000 1
-write 1 0x706FE000 01
+write 1 0x41EFE000 01
 exec 1 0x11A000
 exec 1 0x111000
-read 1 0x70700000 1
+read 1 0x41F00000 1
 read 1 0x4A2A000 1
 read 1 0x4A88000 1
 write 1 0x4A80000 01
@@ -4499,11 +4499,11 @@ age 1
 exec 1 0x110000
 read 1 0x124000 1
 read 1 0x4035000 1
-write 1 0x706FE000 01
+write 1 0x41EFE000 01
 read 1 0x4A2D000 1
 exec 1 0x11A000
 exec 1 0x111000
-read 1 0x70700000 1
+read 1 0x41F00000 1
 read 1 0x4A2A000 1
 read 1 0x4A88000 1
 write 1 0x4A80000 01
@@ -4512,11 +4512,11 @@ read 1 0x4A87000 1
 age 1
 exec 1 0x11A000
 read 1 0x4A2D000 1
-read 1 0x706FE000 1
+read 1 0x41EFE000 1
 exec 1 0x110000
 exec 1 0x111000
 read 1 0x4035000 1
-read 1 0x70700000 1
+read 1 0x41F00000 1
 read 1 0x4A2A000 1
 read 1 0x4A7F000 1
 read 1 0x124000 1
@@ -4525,10 +4525,10 @@ age 1
 exec 1 0x111000
 read 1 0x4A87000 1
 write 1 0x4A7F000 01
-write 1 0x70700000 01
+write 1 0x41F00000 01
 read 1 0x124000 1
 exec 1 0x110000
-write 1 0x706FE000 01
+write 1 0x41EFE000 01
 read 1 0x4A2A000 1
 read 1 0x4035000 1
 read 1 0x4A2D000 1
@@ -4540,11 +4540,11 @@ write 1 0x4A81000 01
 age 1
 exec 1 0x11A000
 read 1 0x4A2D000 1
-read 1 0x706FE000 1
+read 1 0x41EFE000 1
 exec 1 0x110000
 exec 1 0x111000
 read 1 0x4035000 1
-read 1 0x70700000 1
+read 1 0x41F00000 1
 read 1 0x4A2A000 1
 read 1 0x4A88000 1
 write 1 0x4A81000 01
@@ -4554,10 +4554,10 @@ exec 1 0x499A000
 age 1
 write 1 0x4A2D000 01
 exec 1 0x110000
-read 1 0x706FE000 1
+read 1 0x41EFE000 1
 exec 1 0x111000
 read 1 0x4035000 1
-read 1 0x70700000 1
+read 1 0x41F00000 1
 read 1 0x4A2A000 1
 read 1 0x4A88000 1
 read 1 0x124000 1
@@ -4566,12 +4566,12 @@ exec 1 0x11A000
 exec 1 0x10B000
 exec 1 0x499A000
 age 1
-read 1 0x706FE000 1
+read 1 0x41EFE000 1
 exec 1 0x110000
 write 1 0x4A2D000 01
 exec 1 0x111000
 read 1 0x4035000 1
-read 1 0x70700000 1
+read 1 0x41F00000 1
 read 1 0x4A2A000 1
 read 1 0x4A88000 1
 write 1 0x4A81000 01
@@ -4581,13 +4581,13 @@ exec 1 0x10B000
 exec 1 0x499A000
 read 1 0x4A1B000 1
 age 1
-read 1 0x70700000 1
+read 1 0x41F00000 1
 exec 1 0x110000
 exec 1 0x111000
 read 1 0x4A81000 1
 write 1 0x4A88000 01
 read 1 0x124000 1
-write 1 0x706FE000 01
+write 1 0x41EFE000 01
 read 1 0x4A2A000 1
 read 1 0x4035000 1
 read 1 0x4A2D000 1
@@ -4597,10 +4597,10 @@ exec 1 0x499A000
 age 1
 exec 1 0x110000
 write 1 0x4A2D000 01
-read 1 0x706FE000 1
+read 1 0x41EFE000 1
 exec 1 0x111000
 read 1 0x4035000 1
-read 1 0x70700000 1
+read 1 0x41F00000 1
 read 1 0x4A2A000 1
 read 1 0x4A81000 1
 read 1 0x124000 1
@@ -4610,12 +4610,12 @@ exec 1 0x10B000
 exec 1 0x499A000
 age 1
 exec 1 0x111000
-read 1 0x70700000 1
+read 1 0x41F00000 1
 read 1 0x4A88000 1
 write 1 0x4A81000 01
 read 1 0x124000 1
 exec 1 0x110000
-write 1 0x706FE000 01
+write 1 0x41EFE000 01
 read 1 0x4A2A000 1
 read 1 0x4035000 1
 read 1 0x4A2D000 1
@@ -4624,11 +4624,11 @@ exec 1 0x10B000
 exec 1 0x499A000
 age 1
 exec 1 0x110000
-write 1 0x70700000 01
+write 1 0x41F00000 01
 read 1 0x4A81000 1
 read 1 0x4A88000 1
 read 1 0x124000 1
-write 1 0x706FE000 01
+write 1 0x41EFE000 01
 read 1 0x4A2A000 1
 read 1 0x4035000 1
 read 1 0x4A2D000 1
@@ -4636,13 +4636,13 @@ exec 1 0x11A000
 exec 1 0x111000
 age 1
 exec 1 0x110000
-read 1 0x70700000 1
+read 1 0x41F00000 1
 read 1 0x4A2A000 1
 exec 1 0x111000
 read 1 0x4A88000 1
 write 1 0x4A81000 01
 read 1 0x124000 1
-write 1 0x706FE000 01
+write 1 0x41EFE000 01
 read 1 0x4035000 1
 read 1 0x4A2D000 1
 exec 1 0x11A000
@@ -4651,22 +4651,22 @@ exec 1 0x499A000
 age 1
 exec 1 0x110000
 read 1 0x124000 1
-write 1 0x706FE000 01
+write 1 0x41EFE000 01
 exec 1 0x11A000
 read 1 0x4A2D000 1
 exec 1 0x111000
 read 1 0x4035000 1
-read 1 0x70700000 1
+read 1 0x41F00000 1
 read 1 0x4A2A000 1
 read 1 0x4A88000 1
 read 1 0x4A81000 1
 age 1
 exec 1 0x110000
-read 1 0x706FE000 1
+read 1 0x41EFE000 1
 write 1 0x4A2D000 01
 exec 1 0x111000
 read 1 0x4035000 1
-read 1 0x70700000 1
+read 1 0x41F00000 1
 read 1 0x4A2A000 1
 read 1 0x4A81000 1
 write 1 0x4A88000 01
@@ -4678,11 +4678,11 @@ write 1 0x4A80000 01
 age 1
 exec 1 0x11A000
 read 1 0x4A2D000 1
-read 1 0x706FE000 1
+read 1 0x41EFE000 1
 exec 1 0x110000
 exec 1 0x111000
 read 1 0x4035000 1
-read 1 0x70700000 1
+read 1 0x41F00000 1
 read 1 0x4A2A000 1
 read 1 0x4A81000 1
 exec 1 0x10B000
@@ -4693,11 +4693,11 @@ read 1 0x4A80000 1
 age 1
 exec 1 0x11A000
 read 1 0x4A2D000 1
-read 1 0x706FE000 1
+read 1 0x41EFE000 1
 exec 1 0x110000
 exec 1 0x111000
 read 1 0x4035000 1
-read 1 0x70700000 1
+read 1 0x41F00000 1
 read 1 0x4A2A000 1
 read 1 0x4A81000 1
 write 1 0x4A88000 01
@@ -4705,13 +4705,13 @@ read 1 0x124000 1
 exec 1 0x10B000
 exec 1 0x499A000
 age 1
-read 1 0x70700000 1
+read 1 0x41F00000 1
 exec 1 0x111000
 read 1 0x4A81000 1
 read 1 0x124000 1
 exec 1 0x110000
 read 1 0x4A88000 1
-write 1 0x706FE000 01
+write 1 0x41EFE000 01
 read 1 0x4A2A000 1
 read 1 0x4035000 1
 read 1 0x4A2D000 1
@@ -4723,11 +4723,11 @@ read 1 0x4A89000 1
 age 1
 exec 1 0x11A000
 read 1 0x4A2D000 1
-read 1 0x706FE000 1
+read 1 0x41EFE000 1
 exec 1 0x110000
 exec 1 0x111000
 read 1 0x4035000 1
-read 1 0x70700000 1
+read 1 0x41F00000 1
 read 1 0x4A2A000 1
 read 1 0x4A88000 1
 write 1 0x4A89000 01
@@ -4737,12 +4737,12 @@ exec 1 0x10B000
 exec 1 0x499A000
 age 1
 exec 1 0x111000
-write 1 0x70700000 01
+write 1 0x41F00000 01
 read 1 0x124000 1
 exec 1 0x110000
 read 1 0x4A81000 1
 read 1 0x4A89000 1
-write 1 0x706FE000 01
+write 1 0x41EFE000 01
 read 1 0x4A2A000 1
 read 1 0x4035000 1
 read 1 0x4A2D000 1
@@ -4753,11 +4753,11 @@ exec 1 0x499A000
 age 1
 read 1 0x4A2D000 1
 exec 1 0x11A000
-read 1 0x706FE000 1
+read 1 0x41EFE000 1
 exec 1 0x110000
 exec 1 0x111000
 read 1 0x4035000 1
-read 1 0x70700000 1
+read 1 0x41F00000 1
 read 1 0x4A2A000 1
 read 1 0x124000 1
 read 1 0x4A89000 1
@@ -4769,22 +4769,22 @@ read 1 0x4035000 1
 exec 1 0x110000
 read 1 0x4A2D000 1
 read 1 0x124000 1
-write 1 0x706FE000 01
+write 1 0x41EFE000 01
 exec 1 0x11A000
 exec 1 0x111000
-read 1 0x70700000 1
+read 1 0x41F00000 1
 read 1 0x4A2A000 1
 read 1 0x4A89000 1
 read 1 0x4A81000 1
 read 1 0x4A88000 1
 age 1
 exec 1 0x111000
-read 1 0x70700000 1
+read 1 0x41F00000 1
 read 1 0x4A81000 1
 read 1 0x124000 1
 exec 1 0x110000
 read 1 0x4A89000 1
-write 1 0x706FE000 01
+write 1 0x41EFE000 01
 read 1 0x4A2A000 1
 read 1 0x4035000 1
 read 1 0x4A2D000 1
@@ -4793,12 +4793,12 @@ read 1 0x4A80000 1
 age 1
 exec 1 0x110000
 read 1 0x4A2D000 1
-write 1 0x706FE000 01
+write 1 0x41EFE000 01
 read 1 0x4035000 1
 read 1 0x124000 1
 exec 1 0x11A000
 exec 1 0x111000
-read 1 0x70700000 1
+read 1 0x41F00000 1
 read 1 0x4A2A000 1
 read 1 0x4A80000 1
 write 1 0x4A81000 01
@@ -4810,11 +4810,11 @@ read 1 0x4A1B000 1
 age 1
 exec 1 0x111000
 read 1 0x124000 1
-write 1 0x70700000 01
+write 1 0x41F00000 01
 exec 1 0x110000
 read 1 0x4A81000 1
 read 1 0x4A88000 1
-write 1 0x706FE000 01
+write 1 0x41EFE000 01
 read 1 0x4A2A000 1
 read 1 0x4035000 1
 read 1 0x4A2D000 1
@@ -4823,22 +4823,22 @@ write 1 0x4A89000 01
 age 1
 read 1 0x4A2D000 1
 exec 1 0x11A000
-read 1 0x706FE000 1
+read 1 0x41EFE000 1
 exec 1 0x110000
 exec 1 0x111000
 read 1 0x4035000 1
-read 1 0x70700000 1
+read 1 0x41F00000 1
 read 1 0x4A2A000 1
 read 1 0x4A88000 1
 read 1 0x124000 1
 read 1 0x4A81000 1
 age 1
 exec 1 0x110000
-read 1 0x706FE000 1
+read 1 0x41EFE000 1
 write 1 0x4A2D000 01
 exec 1 0x111000
 read 1 0x4035000 1
-read 1 0x70700000 1
+read 1 0x41F00000 1
 read 1 0x4A2A000 1
 read 1 0x4A88000 1
 read 1 0x124000 1
@@ -4846,12 +4846,12 @@ read 1 0x4A81000 1
 exec 1 0x11A000
 read 1 0x4A80000 1
 age 1
-write 1 0x70700000 01
+write 1 0x41F00000 01
 exec 1 0x110000
 read 1 0x4A80000 1
 read 1 0x4A88000 1
 read 1 0x124000 1
-write 1 0x706FE000 01
+write 1 0x41EFE000 01
 read 1 0x4A2A000 1
 read 1 0x4035000 1
 read 1 0x4A2D000 1
@@ -4860,14 +4860,14 @@ exec 1 0x111000
 read 1 0x4A89000 1
 write 1 0x4A81000 01
 age 1
-read 1 0x70700000 1
+read 1 0x41F00000 1
 exec 1 0x111000
 read 1 0x4A80000 1
 write 1 0x4A81000 01
 read 1 0x124000 1
 exec 1 0x110000
 read 1 0x4A89000 1
-write 1 0x706FE000 01
+write 1 0x41EFE000 01
 read 1 0x4A2A000 1
 read 1 0x4035000 1
 read 1 0x4A2D000 1
@@ -4875,12 +4875,12 @@ exec 1 0x11A000
 age 1
 exec 1 0x110000
 read 1 0x4A2D000 1
-write 1 0x706FE000 01
+write 1 0x41EFE000 01
 read 1 0x4035000 1
 read 1 0x124000 1
 exec 1 0x11A000
 exec 1 0x111000
-read 1 0x70700000 1
+read 1 0x41F00000 1
 read 1 0x4A2A000 1
 read 1 0x4A89000 1
 write 1 0x4A80000 01
@@ -4888,11 +4888,11 @@ read 1 0x4A88000 1
 age 1
 exec 1 0x11A000
 read 1 0x4A2D000 1
-read 1 0x706FE000 1
+read 1 0x41EFE000 1
 exec 1 0x110000
 exec 1 0x111000
 read 1 0x4035000 1
-read 1 0x70700000 1
+read 1 0x41F00000 1
 read 1 0x4A2A000 1
 read 1 0x4A80000 1
 read 1 0x124000 1
@@ -4900,13 +4900,13 @@ read 1 0x4A88000 1
 read 1 0x4A7F000 1
 age 1
 exec 1 0x111000
-read 1 0x70700000 1
+read 1 0x41F00000 1
 read 1 0x4A7F000 1
 write 1 0x4A80000 01
 read 1 0x124000 1
 exec 1 0x110000
 read 1 0x4A88000 1
-write 1 0x706FE000 01
+write 1 0x41EFE000 01
 read 1 0x4A2A000 1
 read 1 0x4035000 1
 read 1 0x4A2D000 1
@@ -4914,12 +4914,12 @@ exec 1 0x11A000
 age 1
 read 1 0x4035000 1
 exec 1 0x110000
-write 1 0x706FE000 01
+write 1 0x41EFE000 01
 read 1 0x4A2D000 1
 read 1 0x124000 1
 exec 1 0x11A000
 exec 1 0x111000
-read 1 0x70700000 1
+read 1 0x41F00000 1
 read 1 0x4A2A000 1
 read 1 0x4A88000 1
 write 1 0x4A80000 01
@@ -4927,23 +4927,23 @@ read 1 0x4A7F000 1
 age 1
 exec 1 0x11A000
 read 1 0x4A2D000 1
-read 1 0x706FE000 1
+read 1 0x41EFE000 1
 exec 1 0x110000
 exec 1 0x111000
 read 1 0x4035000 1
-read 1 0x70700000 1
+read 1 0x41F00000 1
 read 1 0x4A2A000 1
 read 1 0x4A88000 1
 write 1 0x4A7F000 01
 read 1 0x124000 1
 age 1
-read 1 0x70700000 1
+read 1 0x41F00000 1
 exec 1 0x111000
 read 1 0x4A7F000 1
 read 1 0x124000 1
 exec 1 0x110000
 read 1 0x4A88000 1
-write 1 0x706FE000 01
+write 1 0x41EFE000 01
 read 1 0x4A2A000 1
 read 1 0x4035000 1
 read 1 0x4A2D000 1
@@ -4955,33 +4955,33 @@ read 1 0x4A87000 1
 write 1 0x4A89000 01
 age 1
 exec 1 0x110000
-write 1 0x706FE000 01
+write 1 0x41EFE000 01
 read 1 0x4035000 1
 read 1 0x4A2D000 1
 read 1 0x124000 1
 exec 1 0x11A000
 exec 1 0x111000
-read 1 0x70700000 1
+read 1 0x41F00000 1
 read 1 0x4A2A000 1
 read 1 0x4A81000 1
 write 1 0x4A89000 01
 read 1 0x4A87000 1
 write 1 0x4A88000 01
 age 1
-read 1 0x70700000 1
+read 1 0x41F00000 1
 exec 1 0x111000
 read 1 0x4A81000 1
 write 1 0x4A88000 01
 read 1 0x124000 1
 exec 1 0x110000
 read 1 0x4A87000 1
-write 1 0x706FE000 01
+write 1 0x41EFE000 01
 read 1 0x4A2A000 1
 read 1 0x4035000 1
 read 1 0x4A2D000 1
 exec 1 0x11A000
 age 1
-read 1 0x70700000 1
+read 1 0x41F00000 1
 exec 1 0x111000
 read 1 0x4A86000 1
 write 1 0x4A88000 01
@@ -4989,20 +4989,20 @@ read 1 0x4A87000 1
 read 1 0x124000 1
 exec 1 0x110000
 read 1 0x4A81000 1
-write 1 0x706FE000 01
+write 1 0x41EFE000 01
 read 1 0x4A2A000 1
 read 1 0x4035000 1
 read 1 0x4A2D000 1
 exec 1 0x11A000
 age 1
 exec 1 0x110000
-write 1 0x706FE000 01
+write 1 0x41EFE000 01
 read 1 0x4035000 1
 read 1 0x124000 1
 read 1 0x4A2D000 1
 exec 1 0x11A000
 exec 1 0x111000
-read 1 0x70700000 1
+read 1 0x41F00000 1
 read 1 0x4A2A000 1
 read 1 0x4A81000 1
 write 1 0x4A88000 01
@@ -5011,11 +5011,11 @@ read 1 0x4A80000 1
 age 1
 exec 1 0x11A000
 read 1 0x4A2D000 1
-read 1 0x706FE000 1
+read 1 0x41EFE000 1
 exec 1 0x110000
 exec 1 0x111000
 read 1 0x4035000 1
-read 1 0x70700000 1
+read 1 0x41F00000 1
 read 1 0x4A2A000 1
 read 1 0x4A80000 1
 write 1 0x4A88000 01
@@ -5024,24 +5024,24 @@ read 1 0x4A86000 1
 write 1 0x4A87000 01
 age 1
 exec 1 0x110000
-read 1 0x70700000 1
+read 1 0x41F00000 1
 read 1 0x4A2A000 1
 exec 1 0x111000
 read 1 0x4A86000 1
 write 1 0x4A87000 01
 read 1 0x124000 1
 read 1 0x4A80000 1
-write 1 0x706FE000 01
+write 1 0x41EFE000 01
 read 1 0x4035000 1
 read 1 0x4A2D000 1
 exec 1 0x11A000
 age 1
-write 1 0x70700000 01
+write 1 0x41F00000 01
 exec 1 0x110000
 read 1 0x4A80000 1
 read 1 0x4A86000 1
 read 1 0x124000 1
-write 1 0x706FE000 01
+write 1 0x41EFE000 01
 read 1 0x4A2A000 1
 read 1 0x4035000 1
 read 1 0x4A2D000 1
@@ -5050,12 +5050,12 @@ exec 1 0x111000
 write 1 0x4A87000 01
 age 1
 exec 1 0x110000
-write 1 0x706FE000 01
+write 1 0x41EFE000 01
 exec 1 0x11A000
 read 1 0x4A2D000 1
 exec 1 0x111000
 read 1 0x4035000 1
-read 1 0x70700000 1
+read 1 0x41F00000 1
 read 1 0x4A2A000 1
 read 1 0x4A86000 1
 write 1 0x4A87000 01
@@ -5063,25 +5063,25 @@ read 1 0x124000 1
 read 1 0x4A80000 1
 age 1
 exec 1 0x11A000
-read 1 0x706FE000 1
+read 1 0x41EFE000 1
 exec 1 0x110000
 write 1 0x4A2D000 01
 exec 1 0x111000
 read 1 0x4035000 1
-read 1 0x70700000 1
+read 1 0x41F00000 1
 read 1 0x4A2A000 1
 read 1 0x4A86000 1
 write 1 0x4A87000 01
 read 1 0x124000 1
 read 1 0x4A80000 1
 age 1
-write 1 0x70700000 01
+write 1 0x41F00000 01
 exec 1 0x111000
 read 1 0x124000 1
 exec 1 0x110000
 read 1 0x4A80000 1
 read 1 0x4A86000 1
-write 1 0x706FE000 01
+write 1 0x41EFE000 01
 read 1 0x4A2A000 1
 read 1 0x4035000 1
 read 1 0x4A2D000 1
@@ -5090,12 +5090,12 @@ read 1 0x4A85000 1
 age 1
 exec 1 0x110000
 write 1 0x4A2D000 01
-write 1 0x706FE000 01
+write 1 0x41EFE000 01
 read 1 0x4035000 1
 read 1 0x124000 1
 exec 1 0x11A000
 exec 1 0x111000
-read 1 0x70700000 1
+read 1 0x41F00000 1
 read 1 0x4A2A000 1
 read 1 0x4A80000 1
 write 1 0x4A86000 01
@@ -5103,11 +5103,11 @@ read 1 0x4A85000 1
 age 1
 exec 1 0x11A000
 read 1 0x4A2D000 1
-read 1 0x706FE000 1
+read 1 0x41EFE000 1
 exec 1 0x110000
 exec 1 0x111000
 read 1 0x4035000 1
-read 1 0x70700000 1
+read 1 0x41F00000 1
 read 1 0x4A2A000 1
 read 1 0x4A7F000 1
 read 1 0x4A80000 1
@@ -5116,13 +5116,13 @@ read 1 0x124000 1
 read 1 0x4A85000 1
 age 1
 exec 1 0x111000
-read 1 0x70700000 1
+read 1 0x41F00000 1
 read 1 0x4A85000 1
 write 1 0x4A86000 01
 read 1 0x124000 1
 exec 1 0x110000
 read 1 0x4A7F000 1
-write 1 0x706FE000 01
+write 1 0x41EFE000 01
 read 1 0x4A2A000 1
 read 1 0x4035000 1
 read 1 0x4A2D000 1
@@ -5131,22 +5131,22 @@ age 1
 exec 1 0x110000
 read 1 0x124000 1
 read 1 0x4035000 1
-write 1 0x706FE000 01
+write 1 0x41EFE000 01
 read 1 0x4A2D000 1
 exec 1 0x11A000
 exec 1 0x111000
-read 1 0x70700000 1
+read 1 0x41F00000 1
 read 1 0x4A2A000 1
 read 1 0x4A7F000 1
 write 1 0x4A85000 01
 age 1
 exec 1 0x11A000
 read 1 0x4A2D000 1
-read 1 0x706FE000 1
+read 1 0x41EFE000 1
 exec 1 0x110000
 exec 1 0x111000
 read 1 0x4035000 1
-read 1 0x70700000 1
+read 1 0x41F00000 1
 read 1 0x4A2A000 1
 read 1 0x4A7F000 1
 write 1 0x4A85000 01
@@ -5154,12 +5154,12 @@ read 1 0x124000 1
 age 1
 read 1 0x4A2A000 1
 exec 1 0x110000
-read 1 0x70700000 1
+read 1 0x41F00000 1
 exec 1 0x111000
 read 1 0x4A85000 1
 read 1 0x124000 1
 read 1 0x4A7F000 1
-write 1 0x706FE000 01
+write 1 0x41EFE000 01
 read 1 0x4035000 1
 read 1 0x4A2D000 1
 exec 1 0x11A000
@@ -5259,12 +5259,12 @@ exec 1 0x110000
 age 1
 exec 1 0x110000
 read 1 0x4035000 1
-write 1 0x706FE000 01
+write 1 0x41EFE000 01
 read 1 0x4A2D000 1
 read 1 0x124000 1
 exec 1 0x11A000
 exec 1 0x111000
-read 1 0x70700000 1
+read 1 0x41F00000 1
 read 1 0x4A2A000 1
 exec 1 0x113000
 exec 1 0x10F000
@@ -5281,11 +5281,11 @@ read 1 0x4A85000 1
 age 1
 exec 1 0x11A000
 read 1 0x4A2D000 1
-read 1 0x706FE000 1
+read 1 0x41EFE000 1
 exec 1 0x110000
 exec 1 0x111000
 read 1 0x4035000 1
-read 1 0x70700000 1
+read 1 0x41F00000 1
 read 1 0x4A2A000 1
 exec 1 0x113000
 read 1 0x124000 1
@@ -5302,12 +5302,12 @@ exec 1 0x499A000
 read 1 0x4A89000 1
 age 1
 exec 1 0x11A000
-read 1 0x706FE000 1
+read 1 0x41EFE000 1
 exec 1 0x110000
 write 1 0x4A2D000 01
 exec 1 0x111000
 read 1 0x4035000 1
-read 1 0x70700000 1
+read 1 0x41F00000 1
 read 1 0x4A2A000 1
 exec 1 0x113000
 read 1 0x124000 1
@@ -5325,12 +5325,12 @@ read 1 0x4A89000 1
 read 1 0x4A88000 1
 age 1
 exec 1 0x11A000
-read 1 0x706FE000 1
+read 1 0x41EFE000 1
 exec 1 0x110000
 write 1 0x4A2D000 01
 exec 1 0x111000
 read 1 0x4035000 1
-read 1 0x70700000 1
+read 1 0x41F00000 1
 read 1 0x4A2A000 1
 exec 1 0x113000
 read 1 0x124000 1
@@ -5355,11 +5355,11 @@ exec 1 0x112000
 age 1
 exec 1 0x11A000
 read 1 0x4A2D000 1
-read 1 0x706FE000 1
+read 1 0x41EFE000 1
 exec 1 0x110000
 exec 1 0x111000
 read 1 0x4035000 1
-read 1 0x70700000 1
+read 1 0x41F00000 1
 read 1 0x4A2A000 1
 exec 1 0x113000
 read 1 0x124000 1
@@ -5377,12 +5377,12 @@ read 1 0x4A88000 1
 read 1 0x4A84000 1
 age 1
 exec 1 0x11A000
-read 1 0x706FE000 1
+read 1 0x41EFE000 1
 exec 1 0x110000
 write 1 0x4A2D000 01
 exec 1 0x111000
 read 1 0x4035000 1
-read 1 0x70700000 1
+read 1 0x41F00000 1
 read 1 0x4A2A000 1
 exec 1 0x113000
 read 1 0x124000 1
@@ -5398,7 +5398,7 @@ read 1 0x4A1B000 1
 exec 1 0x499A000
 read 1 0x4A84000 1
 age 1
-read 1 0x70700000 1
+read 1 0x41F00000 1
 exec 1 0x48C9000
 exec 1 0x48C7000
 exec 1 0x10F000
@@ -5411,7 +5411,7 @@ read 1 0x124000 1
 exec 1 0x110000
 read 1 0x4A88000 1
 read 1 0x4A84000 1
-write 1 0x706FE000 01
+write 1 0x41EFE000 01
 exec 1 0x11A000
 exec 1 0x10B000
 read 1 0x4A1C000 1
@@ -5429,11 +5429,11 @@ exec 1 0x112000
 age 1
 exec 1 0x11A000
 read 1 0x4A2D000 1
-read 1 0x706FE000 1
+read 1 0x41EFE000 1
 exec 1 0x110000
 exec 1 0x111000
 read 1 0x4035000 1
-read 1 0x70700000 1
+read 1 0x41F00000 1
 read 1 0x4A2A000 1
 exec 1 0x113000
 read 1 0x124000 1
@@ -5451,7 +5451,7 @@ read 1 0x4A88000 1
 age 1
 read 1 0x4A1C000 1
 exec 1 0x48C9000
-write 1 0x70700000 01
+write 1 0x41F00000 01
 exec 1 0x486E000
 read 1 0x4A1B000 1
 exec 1 0x499A000
@@ -5466,18 +5466,18 @@ read 1 0x124000 1
 exec 1 0x110000
 read 1 0x4A88000 1
 read 1 0x4A84000 1
-write 1 0x706FE000 01
+write 1 0x41EFE000 01
 exec 1 0x11A000
 exec 1 0x10B000
 read 1 0x4A18000 1
 age 1
 exec 1 0x11A000
 read 1 0x4A2D000 1
-read 1 0x706FE000 1
+read 1 0x41EFE000 1
 exec 1 0x110000
 exec 1 0x111000
 read 1 0x4035000 1
-read 1 0x70700000 1
+read 1 0x41F00000 1
 read 1 0x4A2A000 1
 exec 1 0x113000
 read 1 0x124000 1
@@ -5496,7 +5496,7 @@ age 1
 read 1 0x4A1C000 1
 exec 1 0x48C7000
 read 1 0x4A18000 1
-write 1 0x70700000 01
+write 1 0x41F00000 01
 exec 1 0x48C9000
 exec 1 0x486E000
 read 1 0x4A1B000 1
@@ -5519,17 +5519,17 @@ exec 1 0x111000
 exec 1 0x110000
 read 1 0x4A88000 1
 read 1 0x4A84000 1
-write 1 0x706FE000 01
+write 1 0x41EFE000 01
 exec 1 0x11A000
 age 1
 exec 1 0x110000
 read 1 0x124000 1
 read 1 0x4035000 1
-write 1 0x706FE000 01
+write 1 0x41EFE000 01
 read 1 0x4A2D000 1
 exec 1 0x11A000
 exec 1 0x111000
-read 1 0x70700000 1
+read 1 0x41F00000 1
 read 1 0x4A2A000 1
 exec 1 0x113000
 exec 1 0x10F000
@@ -5545,7 +5545,7 @@ exec 1 0x499A000
 read 1 0x4A84000 1
 age 1
 exec 1 0x10F000
-write 1 0x70700000 01
+write 1 0x41F00000 01
 read 1 0x4A84000 1
 read 1 0x4A2A000 1
 read 1 0x124000 1
@@ -5563,15 +5563,15 @@ exec 1 0x113000
 exec 1 0x111000
 exec 1 0x110000
 read 1 0x4A88000 1
-write 1 0x706FE000 01
+write 1 0x41EFE000 01
 exec 1 0x11A000
 age 1
 exec 1 0x110000
-write 1 0x70700000 01
+write 1 0x41F00000 01
 read 1 0x4A88000 1
 read 1 0x4A84000 1
 read 1 0x124000 1
-write 1 0x706FE000 01
+write 1 0x41EFE000 01
 read 1 0x4A2A000 1
 read 1 0x4035000 1
 read 1 0x4A2D000 1
@@ -5596,7 +5596,7 @@ exec 1 0x48D5000
 exec 1 0x112000
 age 1
 exec 1 0x110000
-read 1 0x70700000 1
+read 1 0x41F00000 1
 exec 1 0x111000
 exec 1 0x113000
 read 1 0x4035000 1
@@ -5614,10 +5614,10 @@ exec 1 0x486E000
 read 1 0x4A1B000 1
 exec 1 0x499A000
 read 1 0x4A88000 1
-write 1 0x706FE000 01
+write 1 0x41EFE000 01
 exec 1 0x11A000
 age 1
-read 1 0x70700000 1
+read 1 0x41F00000 1
 exec 1 0x10F000
 exec 1 0x113000
 read 1 0x4035000 1
@@ -5626,7 +5626,7 @@ read 1 0x124000 1
 exec 1 0x110000
 read 1 0x4A88000 1
 read 1 0x4A84000 1
-write 1 0x706FE000 01
+write 1 0x41EFE000 01
 read 1 0x4A2A000 1
 read 1 0x4A2D000 1
 exec 1 0x11A000
@@ -5640,12 +5640,12 @@ read 1 0x4A1B000 1
 exec 1 0x499A000
 age 1
 exec 1 0x11A000
-read 1 0x706FE000 1
+read 1 0x41EFE000 1
 exec 1 0x110000
 write 1 0x4A2D000 01
 exec 1 0x111000
 read 1 0x4035000 1
-read 1 0x70700000 1
+read 1 0x41F00000 1
 read 1 0x4A2A000 1
 exec 1 0x113000
 read 1 0x124000 1
@@ -5673,7 +5673,7 @@ exec 1 0x48D4000
 read 1 0x4035000 1
 read 1 0x4A23000 1
 read 1 0x4A2A000 1
-read 1 0x70700000 1
+read 1 0x41F00000 1
 exec 1 0x112000
 exec 1 0x113000
 exec 1 0x111000
@@ -5681,7 +5681,7 @@ read 1 0x124000 1
 exec 1 0x110000
 read 1 0x4A87000 1
 read 1 0x4A84000 1
-write 1 0x706FE000 01
+write 1 0x41EFE000 01
 read 1 0x4A2D000 1
 exec 1 0x11A000
 exec 1 0x10F000
@@ -5696,11 +5696,11 @@ exec 1 0x499A000
 age 1
 read 1 0x4A2D000 1
 exec 1 0x11A000
-read 1 0x706FE000 1
+read 1 0x41EFE000 1
 exec 1 0x110000
 exec 1 0x111000
 read 1 0x4035000 1
-read 1 0x70700000 1
+read 1 0x41F00000 1
 read 1 0x4A2A000 1
 exec 1 0x113000
 read 1 0x124000 1
@@ -5719,7 +5719,7 @@ read 1 0x4A83000 1
 age 1
 exec 1 0x48C9000
 read 1 0x4A1C000 1
-write 1 0x70700000 01
+write 1 0x41F00000 01
 exec 1 0x486E000
 read 1 0x4A1B000 1
 exec 1 0x499A000
@@ -5734,18 +5734,18 @@ read 1 0x124000 1
 exec 1 0x110000
 read 1 0x4A87000 1
 read 1 0x4A83000 1
-write 1 0x706FE000 01
+write 1 0x41EFE000 01
 exec 1 0x11A000
 exec 1 0x10B000
 read 1 0x4A18000 1
 age 1
 exec 1 0x11A000
 read 1 0x4A2D000 1
-read 1 0x706FE000 1
+read 1 0x41EFE000 1
 exec 1 0x110000
 exec 1 0x111000
 read 1 0x4035000 1
-read 1 0x70700000 1
+read 1 0x41F00000 1
 read 1 0x4A2A000 1
 exec 1 0x113000
 read 1 0x124000 1
@@ -5769,7 +5769,7 @@ exec 1 0x48D5000
 exec 1 0x112000
 age 1
 exec 1 0x48C7000
-write 1 0x70700000 01
+write 1 0x41F00000 01
 read 1 0x4A1C000 1
 read 1 0x4A18000 1
 exec 1 0x48C9000
@@ -5787,18 +5787,18 @@ read 1 0x124000 1
 exec 1 0x110000
 read 1 0x4A87000 1
 read 1 0x4A83000 1
-write 1 0x706FE000 01
+write 1 0x41EFE000 01
 exec 1 0x11A000
 exec 1 0x10B000
 age 1
 exec 1 0x110000
 read 1 0x124000 1
 read 1 0x4035000 1
-write 1 0x706FE000 01
+write 1 0x41EFE000 01
 read 1 0x4A2D000 1
 exec 1 0x11A000
 exec 1 0x111000
-read 1 0x70700000 1
+read 1 0x41F00000 1
 read 1 0x4A2A000 1
 exec 1 0x113000
 exec 1 0x10F000
@@ -5814,7 +5814,7 @@ exec 1 0x499A000
 write 1 0x4036000 01
 read 1 0x4A87000 1
 age 1
-write 1 0x70700000 01
+write 1 0x41F00000 01
 exec 1 0x10F000
 read 1 0x4A83000 1
 read 1 0x4A2A000 1
@@ -5834,7 +5834,7 @@ read 1 0x4035000 1
 exec 1 0x111000
 exec 1 0x110000
 read 1 0x4A87000 1
-write 1 0x706FE000 01
+write 1 0x41EFE000 01
 exec 1 0x11A000
 exec 1 0x48D4000
 read 1 0x4A1D000 1
@@ -5846,11 +5846,11 @@ exec 1 0x112000
 age 1
 exec 1 0x111000
 read 1 0x124000 1
-write 1 0x70700000 01
+write 1 0x41F00000 01
 exec 1 0x110000
 read 1 0x4A87000 1
 read 1 0x4A83000 1
-write 1 0x706FE000 01
+write 1 0x41EFE000 01
 read 1 0x4A2A000 1
 read 1 0x4035000 1
 read 1 0x4A2D000 1
@@ -5867,7 +5867,7 @@ read 1 0x4A1B000 1
 exec 1 0x499A000
 write 1 0x4036000 01
 age 1
-read 1 0x70700000 1
+read 1 0x41F00000 1
 exec 1 0x110000
 exec 1 0x111000
 exec 1 0x113000
@@ -5887,11 +5887,11 @@ read 1 0x4A1B000 1
 exec 1 0x499A000
 write 1 0x4036000 01
 read 1 0x4A87000 1
-write 1 0x706FE000 01
+write 1 0x41EFE000 01
 exec 1 0x11A000
 age 1
 exec 1 0x10F000
-read 1 0x70700000 1
+read 1 0x41F00000 1
 exec 1 0x113000
 read 1 0x4035000 1
 exec 1 0x111000
@@ -5899,7 +5899,7 @@ read 1 0x124000 1
 exec 1 0x110000
 read 1 0x4A87000 1
 read 1 0x4A83000 1
-write 1 0x706FE000 01
+write 1 0x41EFE000 01
 read 1 0x4A2A000 1
 read 1 0x4A2D000 1
 exec 1 0x11A000
@@ -5914,12 +5914,12 @@ exec 1 0x499A000
 write 1 0x4036000 01
 age 1
 exec 1 0x11A000
-read 1 0x706FE000 1
+read 1 0x41EFE000 1
 exec 1 0x110000
 write 1 0x4A2D000 01
 exec 1 0x111000
 read 1 0x4035000 1
-read 1 0x70700000 1
+read 1 0x41F00000 1
 read 1 0x4A2A000 1
 exec 1 0x113000
 read 1 0x124000 1
@@ -5945,7 +5945,7 @@ exec 1 0x112000
 age 1
 exec 1 0x48C9000
 write 1 0x4A1C000 01
-read 1 0x70700000 1
+read 1 0x41F00000 1
 exec 1 0x48C7000
 exec 1 0x10F000
 write 1 0x4A2D000 01
@@ -5957,7 +5957,7 @@ read 1 0x124000 1
 exec 1 0x110000
 read 1 0x4A87000 1
 read 1 0x4A83000 1
-write 1 0x706FE000 01
+write 1 0x41EFE000 01
 exec 1 0x11A000
 exec 1 0x10B000
 read 1 0x4A18000 1
@@ -5968,11 +5968,11 @@ write 1 0x4036000 01
 age 1
 exec 1 0x11A000
 read 1 0x4A2D000 1
-read 1 0x706FE000 1
+read 1 0x41EFE000 1
 exec 1 0x110000
 exec 1 0x111000
 read 1 0x4035000 1
-read 1 0x70700000 1
+read 1 0x41F00000 1
 read 1 0x4A2A000 1
 exec 1 0x113000
 read 1 0x124000 1
@@ -5990,7 +5990,7 @@ write 1 0x4036000 01
 read 1 0x4A87000 1
 age 1
 exec 1 0x48C9000
-write 1 0x70700000 01
+write 1 0x41F00000 01
 read 1 0x4A1C000 1
 exec 1 0x486E000
 read 1 0x4A1B000 1
@@ -6007,7 +6007,7 @@ read 1 0x124000 1
 exec 1 0x110000
 read 1 0x4A87000 1
 read 1 0x4A83000 1
-write 1 0x706FE000 01
+write 1 0x41EFE000 01
 exec 1 0x11A000
 exec 1 0x10B000
 read 1 0x4A18000 1
@@ -6023,11 +6023,11 @@ age 1
 read 1 0x4A2D000 1
 exec 1 0x110000
 read 1 0x124000 1
-write 1 0x706FE000 01
+write 1 0x41EFE000 01
 exec 1 0x11A000
 exec 1 0x111000
 read 1 0x4035000 1
-read 1 0x70700000 1
+read 1 0x41F00000 1
 read 1 0x4A2A000 1
 exec 1 0x113000
 exec 1 0x10F000
@@ -6043,7 +6043,7 @@ exec 1 0x499A000
 write 1 0x4036000 01
 read 1 0x4A86000 1
 age 1
-write 1 0x70700000 01
+write 1 0x41F00000 01
 exec 1 0x10B000
 read 1 0x124000 1
 exec 1 0x48C7000
@@ -6063,18 +6063,18 @@ exec 1 0x111000
 exec 1 0x110000
 read 1 0x4A86000 1
 read 1 0x4A83000 1
-write 1 0x706FE000 01
+write 1 0x41EFE000 01
 exec 1 0x11A000
 read 1 0x4A82000 1
 age 1
 exec 1 0x110000
 read 1 0x4035000 1
 read 1 0x124000 1
-write 1 0x706FE000 01
+write 1 0x41EFE000 01
 read 1 0x4A2D000 1
 exec 1 0x11A000
 exec 1 0x111000
-read 1 0x70700000 1
+read 1 0x41F00000 1
 read 1 0x4A2A000 1
 exec 1 0x113000
 exec 1 0x10F000
@@ -6091,7 +6091,7 @@ write 1 0x4036000 01
 read 1 0x4A82000 1
 age 1
 exec 1 0x111000
-read 1 0x70700000 1
+read 1 0x41F00000 1
 exec 1 0x10F000
 read 1 0x4A86000 1
 read 1 0x4A2A000 1
@@ -6110,7 +6110,7 @@ exec 1 0x113000
 read 1 0x4035000 1
 exec 1 0x110000
 read 1 0x4A82000 1
-write 1 0x706FE000 01
+write 1 0x41EFE000 01
 exec 1 0x11A000
 exec 1 0x48D4000
 read 1 0x4A1D000 1
@@ -6120,13 +6120,13 @@ exec 1 0x48CF000
 exec 1 0x48D5000
 exec 1 0x112000
 age 1
-write 1 0x70700000 01
+write 1 0x41F00000 01
 exec 1 0x111000
 read 1 0x124000 1
 exec 1 0x110000
 read 1 0x4A86000 1
 read 1 0x4A82000 1
-write 1 0x706FE000 01
+write 1 0x41EFE000 01
 read 1 0x4A2A000 1
 read 1 0x4035000 1
 read 1 0x4A2D000 1
@@ -6144,7 +6144,7 @@ exec 1 0x499A000
 write 1 0x4036000 01
 age 1
 exec 1 0x110000
-read 1 0x70700000 1
+read 1 0x41F00000 1
 read 1 0x4A2A000 1
 exec 1 0x111000
 exec 1 0x113000
@@ -6163,12 +6163,12 @@ read 1 0x4A1B000 1
 exec 1 0x499A000
 write 1 0x4036000 01
 read 1 0x4A82000 1
-write 1 0x706FE000 01
+write 1 0x41EFE000 01
 exec 1 0x11A000
 age 1
 exec 1 0x10F000
 write 1 0x4A2D000 01
-read 1 0x70700000 1
+read 1 0x41F00000 1
 read 1 0x4A2A000 1
 exec 1 0x113000
 read 1 0x4035000 1
@@ -6177,7 +6177,7 @@ read 1 0x124000 1
 exec 1 0x110000
 read 1 0x4A86000 1
 read 1 0x4A82000 1
-write 1 0x706FE000 01
+write 1 0x41EFE000 01
 exec 1 0x11A000
 exec 1 0x10B000
 exec 1 0x48C7000
@@ -6198,11 +6198,11 @@ exec 1 0x112000
 age 1
 exec 1 0x11A000
 read 1 0x4A2D000 1
-read 1 0x706FE000 1
+read 1 0x41EFE000 1
 exec 1 0x110000
 exec 1 0x111000
 read 1 0x4035000 1
-read 1 0x70700000 1
+read 1 0x41F00000 1
 read 1 0x4A2A000 1
 exec 1 0x113000
 read 1 0x124000 1
@@ -6221,7 +6221,7 @@ read 1 0x4A82000 1
 age 1
 exec 1 0x499A000
 write 1 0x4036000 01
-read 1 0x70700000 1
+read 1 0x41F00000 1
 exec 1 0x48C9000
 write 1 0x4A1C000 01
 exec 1 0x48C7000
@@ -6235,7 +6235,7 @@ read 1 0x124000 1
 exec 1 0x110000
 read 1 0x4A86000 1
 read 1 0x4A82000 1
-write 1 0x706FE000 01
+write 1 0x41EFE000 01
 exec 1 0x11A000
 exec 1 0x10B000
 read 1 0x4A18000 1
@@ -6244,11 +6244,11 @@ read 1 0x4A1B000 1
 age 1
 read 1 0x4A2D000 1
 exec 1 0x11A000
-read 1 0x706FE000 1
+read 1 0x41EFE000 1
 exec 1 0x110000
 exec 1 0x111000
 read 1 0x4035000 1
-read 1 0x70700000 1
+read 1 0x41F00000 1
 read 1 0x4A2A000 1
 exec 1 0x113000
 read 1 0x124000 1
@@ -6265,7 +6265,7 @@ exec 1 0x499A000
 write 1 0x4036000 01
 read 1 0x4A82000 1
 age 1
-write 1 0x70700000 01
+write 1 0x41F00000 01
 exec 1 0x48C9000
 read 1 0x4A1C000 1
 exec 1 0x486E000
@@ -6283,7 +6283,7 @@ read 1 0x124000 1
 exec 1 0x110000
 read 1 0x4A86000 1
 read 1 0x4A82000 1
-write 1 0x706FE000 01
+write 1 0x41EFE000 01
 exec 1 0x11A000
 exec 1 0x10B000
 read 1 0x4A18000 1
@@ -6298,11 +6298,11 @@ age 1
 read 1 0x124000 1
 exec 1 0x110000
 read 1 0x4A2D000 1
-write 1 0x706FE000 01
+write 1 0x41EFE000 01
 exec 1 0x11A000
 exec 1 0x111000
 read 1 0x4035000 1
-read 1 0x70700000 1
+read 1 0x41F00000 1
 read 1 0x4A2A000 1
 exec 1 0x113000
 exec 1 0x10F000
@@ -6320,7 +6320,7 @@ read 1 0x4A86000 1
 age 1
 exec 1 0x10F000
 write 1 0x4A2D000 01
-write 1 0x70700000 01
+write 1 0x41F00000 01
 exec 1 0x10B000
 read 1 0x124000 1
 exec 1 0x48C7000
@@ -6338,17 +6338,17 @@ exec 1 0x111000
 exec 1 0x110000
 read 1 0x4A86000 1
 read 1 0x4A82000 1
-write 1 0x706FE000 01
+write 1 0x41EFE000 01
 exec 1 0x11A000
 age 1
 exec 1 0x110000
-write 1 0x706FE000 01
+write 1 0x41EFE000 01
 read 1 0x4035000 1
 read 1 0x124000 1
 read 1 0x4A2D000 1
 exec 1 0x11A000
 exec 1 0x111000
-read 1 0x70700000 1
+read 1 0x41F00000 1
 read 1 0x4A2A000 1
 exec 1 0x113000
 exec 1 0x10F000
@@ -6373,7 +6373,7 @@ exec 1 0x112000
 age 1
 exec 1 0x113000
 write 1 0x4035000 01
-write 1 0x70700000 01
+write 1 0x41F00000 01
 exec 1 0x111000
 read 1 0x124000 1
 exec 1 0x10F000
@@ -6391,17 +6391,17 @@ exec 1 0x499A000
 write 1 0x4036000 01
 exec 1 0x110000
 read 1 0x4A86000 1
-write 1 0x706FE000 01
+write 1 0x41EFE000 01
 exec 1 0x11A000
 read 1 0x4A85000 1
 age 1
-write 1 0x70700000 01
+write 1 0x41F00000 01
 exec 1 0x111000
 read 1 0x124000 1
 exec 1 0x110000
 read 1 0x4A85000 1
 read 1 0x4A82000 1
-write 1 0x706FE000 01
+write 1 0x41EFE000 01
 read 1 0x4A2A000 1
 read 1 0x4035000 1
 read 1 0x4A2D000 1
@@ -6421,7 +6421,7 @@ read 1 0x4A81000 1
 age 1
 read 1 0x4A2A000 1
 exec 1 0x110000
-read 1 0x70700000 1
+read 1 0x41F00000 1
 exec 1 0x111000
 exec 1 0x113000
 read 1 0x4035000 1
@@ -6439,12 +6439,12 @@ read 1 0x4A1B000 1
 exec 1 0x499A000
 write 1 0x4036000 01
 read 1 0x4A85000 1
-write 1 0x706FE000 01
+write 1 0x41EFE000 01
 exec 1 0x11A000
 age 1
 read 1 0x4A2A000 1
 exec 1 0x10F000
-read 1 0x70700000 1
+read 1 0x41F00000 1
 exec 1 0x113000
 read 1 0x4035000 1
 exec 1 0x111000
@@ -6452,7 +6452,7 @@ read 1 0x124000 1
 exec 1 0x110000
 read 1 0x4A85000 1
 read 1 0x4A81000 1
-write 1 0x706FE000 01
+write 1 0x41EFE000 01
 read 1 0x4A2D000 1
 exec 1 0x11A000
 exec 1 0x10B000
@@ -6474,11 +6474,11 @@ exec 1 0x112000
 age 1
 exec 1 0x11A000
 read 1 0x4A2D000 1
-read 1 0x706FE000 1
+read 1 0x41EFE000 1
 exec 1 0x110000
 exec 1 0x111000
 read 1 0x4035000 1
-read 1 0x70700000 1
+read 1 0x41F00000 1
 read 1 0x4A2A000 1
 exec 1 0x113000
 read 1 0x124000 1
@@ -6498,7 +6498,7 @@ age 1
 read 1 0x4A2D000 1
 exec 1 0x499A000
 write 1 0x4036000 01
-read 1 0x70700000 1
+read 1 0x41F00000 1
 exec 1 0x48C9000
 write 1 0x4A1C000 01
 exec 1 0x48C7000
@@ -6511,7 +6511,7 @@ read 1 0x124000 1
 exec 1 0x110000
 read 1 0x4A85000 1
 read 1 0x4A81000 1
-write 1 0x706FE000 01
+write 1 0x41EFE000 01
 exec 1 0x11A000
 exec 1 0x10B000
 read 1 0x4A18000 1
@@ -6520,11 +6520,11 @@ read 1 0x4A1B000 1
 age 1
 exec 1 0x11A000
 read 1 0x4A2D000 1
-read 1 0x706FE000 1
+read 1 0x41EFE000 1
 exec 1 0x110000
 exec 1 0x111000
 read 1 0x4035000 1
-read 1 0x70700000 1
+read 1 0x41F00000 1
 read 1 0x4A2A000 1
 exec 1 0x113000
 read 1 0x124000 1
@@ -6549,7 +6549,7 @@ exec 1 0x48D5000
 exec 1 0x112000
 age 1
 exec 1 0x48C9000
-write 1 0x70700000 01
+write 1 0x41F00000 01
 read 1 0x4A1C000 1
 exec 1 0x486E000
 read 1 0x4A1B000 1
@@ -6566,7 +6566,7 @@ read 1 0x124000 1
 exec 1 0x110000
 read 1 0x4A85000 1
 read 1 0x4A81000 1
-write 1 0x706FE000 01
+write 1 0x41EFE000 01
 exec 1 0x11A000
 exec 1 0x10B000
 read 1 0x4A18000 1
@@ -6574,11 +6574,11 @@ age 1
 exec 1 0x110000
 read 1 0x4A2D000 1
 read 1 0x124000 1
-write 1 0x706FE000 01
+write 1 0x41EFE000 01
 exec 1 0x11A000
 exec 1 0x111000
 read 1 0x4035000 1
-read 1 0x70700000 1
+read 1 0x41F00000 1
 read 1 0x4A2A000 1
 exec 1 0x113000
 exec 1 0x10F000
@@ -6596,7 +6596,7 @@ read 1 0x4A85000 1
 age 1
 exec 1 0x10F000
 write 1 0x4A2D000 01
-write 1 0x70700000 01
+write 1 0x41F00000 01
 exec 1 0x10B000
 read 1 0x124000 1
 exec 1 0x48C7000
@@ -6614,7 +6614,7 @@ exec 1 0x111000
 exec 1 0x110000
 read 1 0x4A85000 1
 read 1 0x4A81000 1
-write 1 0x706FE000 01
+write 1 0x41EFE000 01
 exec 1 0x11A000
 exec 1 0x48D4000
 read 1 0x4A1D000 1
@@ -6663,7 +6663,7 @@ exec 1 0x10B000
 read 1 0x124000 1
 exec 1 0x48C5000
 read 1 0x4A1C000 1
-read 1 0x70700000 1
+read 1 0x41F00000 1
 exec 1 0x10E000
 read 1 0x123000 1
 exec 1 0x4012000

@@ -30,7 +30,7 @@ LATER: dict[str, str] = {
 }
 
 __all__ = ["Machine", "Process", "Thread", "Handle", "Pending"]
-__all__ += ["Region", "Stack", "Charge", "Counts"]
+__all__ += ["Region", "Stack", "Charge", "Counts", "Observations", "observe"]
 __all__ += ["PAGE", "MEM", "SEC", "FILE_MAP", "ERROR", "STATUS"]
 __all__ += ["Refused", "Raised", "Busy", "Full", "DeviceFault", "Ended", "Mistake", "Missing"]
 __all__ += ["run", "load", "sweep", "compare", "Costs"]

@@ -77,6 +77,7 @@ def add_machines(parser: argparse.ArgumentParser) -> None:
     add("--no-policies", action="store_true", help="without LRU, the optimum, FIFO and Clock")
     add("--csv", metavar="FILE", help="the table as csv, with more columns")
     add("--picture", metavar="FILE", help="the curves")
+    add("--up", default="hard", metavar="COUNT,..", help="the counts that the picture has (hard)")
     add("--title", default="", help="the picture's title")
 
 
@@ -198,5 +199,6 @@ def write(
     varied = [name for name in ("frames", "age", *more) if len({row[name] for row in rows}) > 1]
     across = varied[0] if varied else "frames"
     policies = [name for name in NAMES if across == "frames" and name in rows[0]]
-    drawn = curves(rows, across, by=varied[1:], policies=policies, title=given.title)
+    ups = given.up.split(",")
+    drawn = curves(rows, across, ups, varied[1:], policies=policies, title=given.title)
     drawn.save(given.picture)

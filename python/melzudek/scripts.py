@@ -12,12 +12,13 @@ import re
 from collections import Counter
 from collections.abc import Iterable, Iterator, Mapping
 from pathlib import Path
-from typing import NamedTuple
+from typing import NamedTuple, Union
 
 from .errors import Mistake
 
-Script = str | os.PathLike[str] | Iterable[str]
-Value = int | str
+# spelled so that Python 3.9 takes it: tools that run before anything is installed import this
+Script = Union[str, "os.PathLike[str]", Iterable[str]]
+Value = Union[int, str]
 MACHINE = re.compile(r"machine (\d+) (\d+) (\d+) (\d+)")
 PROCESS = re.compile(r"process (\d+) (\d+)")
 ACCESSES = ("read", "write", "exec")

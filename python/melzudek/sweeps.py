@@ -30,7 +30,8 @@ from .scripts import Script, Value, head, read_script
 from .workers import COUNTS, Row, ScriptSource, Source, packed, row_of, tools, unpacked
 
 RETRIES = 3  # of a task whose worker was lost or whose call of the network failed
-SECONDS = 15  # to find a scheduler, and as many to find a first worker
+SECONDS = 15  # to find a scheduler
+WORKER_SECONDS = 60  # until its first worker is there
 POLICIES = ("lru", "optimum", "fifo", "clock")
 Share = tuple[int, int]
 
@@ -44,6 +45,7 @@ def sweep(
     only: Share = (1, 1),
     scheduler: str | None = None,
     workers: int | None = None,
+    cluster: Cluster | None = None,
     policies: bool = False,
     progress: bool | None = None,
 ) -> Iterator[Row]:
@@ -53,7 +55,8 @@ def sweep(
     `minimum:2`, of process 2), `age`, `trim`, `writer`, `zeroer`, `io`, or what a Source has. All
     combinations are run, `only` (i, n) every n-th from the i-th on. With `resume` those that the
     file has are left out. The workers are of the cluster of `scheduler`, or so many processes of
-    this machine (as many as this process has processors). `policies` adds what LRU, the optimum,
+    this machine (as many as this process has processors), or of a `cluster` that is kept for
+    several sweeps. `policies` adds what LRU, the optimum,
     FIFO and Clock would have on the same references. `progress` draws a bar; without a word it does
     on a terminal. Raises Mistake where a name or the file will not do.
     """
@@ -66,7 +69,10 @@ def sweep(
     table = Table(Path(to) if to is not None else None, names, list(vary))
     done = table.open(resume)
     wanted = [it for it in machines if table.key(it) not in done]
-    with table, Cluster(scheduler, workers, len(wanted)) as cluster:
+    with table, contextlib.ExitStack() as left:
+        if wanted and cluster is None:
+            processors = workers or len(os.sched_getaffinity(0))
+            cluster = left.enter_context(Cluster(scheduler, min(processors, len(wanted))))
         rows = run_all(cluster, bundle, wanted, table, beside)
         yield from bar(rows, len(wanted), progress)
 
@@ -162,19 +168,21 @@ class Table:
 class Cluster:
     """Dask's client with its workers: of a scheduler that runs, or new processes of this machine.
 
-    (`Any`: this distributed has no types.)
+        with Cluster(workers=2) as two:
+            rows = [*sweep(one, vary, cluster=two), *sweep(other, vary, cluster=two)]
+
+    A notebook has `two = Cluster(workers=2).open()`, and `two.close()` at its end.
     """
 
-    def __init__(self, scheduler: str | None, workers: int | None, most: int) -> None:
+    def __init__(self, scheduler: str | None = None, workers: int = 1) -> None:
+        require("dask", "distributed")
         self.scheduler = scheduler
-        self.workers = min(workers or len(os.sched_getaffinity(0)), max(most, 1))
-        self.idle = not most
-        self.client: Any = None
+        self.workers = workers
+        self.client: Any = None  # this distributed has no types
         self.left = contextlib.ExitStack()
 
-    def __enter__(self) -> Cluster:
-        if self.idle:
-            return self
+    def open(self) -> Cluster:
+        """Begins the workers, or finds the scheduler; Mistake where there is none."""
         import distributed
 
         folder = self.left.enter_context(tempfile.TemporaryDirectory(prefix="melzudek-sweep-"))
@@ -188,6 +196,15 @@ class Cluster:
             self.left.close()
             raise
         return self
+
+    def close(self) -> None:
+        self.left.close()
+
+    def __enter__(self) -> Cluster:
+        return self.open()
+
+    def __exit__(self, *error: object) -> None:
+        self.close()
 
     def begin(self, distributed: Any, folder: str) -> None:
         """Workers of this machine, whose files lie in the folder and go with it."""
@@ -211,14 +228,11 @@ class Cluster:
             raise Mistake(f"there is no scheduler at {self.scheduler}: {why}") from error
         self.left.callback(self.client.close)
         try:
-            self.client.wait_for_workers(1, timeout=SECONDS)
+            self.client.wait_for_workers(1, timeout=WORKER_SECONDS)
         except TimeoutError as error:
             where = f"the scheduler at {self.scheduler} has no worker"
             raise Mistake(f"{where}: `dask-worker {self.scheduler}` begins one") from error
         self.client.upload_file(package(folder))
-
-    def __exit__(self, *error: object) -> None:
-        self.left.close()
 
 
 @contextlib.contextmanager
@@ -246,7 +260,7 @@ def package(folder: str) -> str:
 
 
 def run_all(
-    cluster: Cluster,
+    cluster: Cluster | None,
     bundle: bytes,
     machines: Sequence[dict[str, Value]],
     table: Table,
@@ -256,7 +270,7 @@ def run_all(
 
     That one is a task and no scattered data: a worker that dies with it costs nothing.
     """
-    if not machines:
+    if not machines or not cluster:
         return
     import distributed
 
@@ -266,7 +280,7 @@ def run_all(
     tasks = {client.submit(row_of, carried, it, pure=False, retries=RETRIES): it for it in machines}
     for task in dask.as_completed(tasks):
         row = finished(task, tasks[task])
-        if beside and not row.get("reason"):
+        if beside and not row.get("reason"):  # policies know the number of page frames alone
             row |= beside[int(row["frames"])] if "frames" in row else next(iter(beside.values()))
         table.add(row)
         yield row

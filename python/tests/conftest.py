@@ -13,7 +13,12 @@ os.environ["PYTHONPATH"] = os.pathsep.join(
     part for part in (str(PYTHON), os.environ.get("PYTHONPATH")) if part
 )
 
+from hypothesis import settings  # noqa: E402
+
 from melzudek import programs  # noqa: E402  (the package beside the tests, as of here)
+
+settings.register_profile("plain", database=None)  # no folder of what was drawn is left behind
+settings.load_profile("plain")
 
 
 def has_events(mmshow: str) -> bool:
@@ -27,4 +32,4 @@ def pytest_configure() -> None:
     real = programs.find("mmshow")
     if not has_events(real):
         os.environ["FAKE_MMSHOW"] = real
-        os.environ["MELZUDEK_MMSHOW"] = str(Path(__file__).with_name("fake_mmshow.py"))
+        os.environ["MELZUDEK_MMSHOW"] = str(Path(__file__).with_name("fake_mmshow"))

@@ -1,14 +1,11 @@
-#!/usr/bin/env python3
-"""An mmshow that has the csv forms, for tests on a machine whose mmshow has them not yet.
+"""The csv forms of mmshow for tests where the real one has them not yet: see fake_mmshow.
 
-`events`, `counts csv` and `faults csv` are made by the independent reference of checks/reference;
-all else is handed to the real program, whose path is in FAKE_MMSHOW.
+`events`, `counts csv` and `faults csv` are made by the independent reference of checks/reference.
 """
 
 from __future__ import annotations
 
 import csv
-import os
 import sys
 from collections import Counter
 from pathlib import Path
@@ -124,8 +121,6 @@ def faults(data: bytes) -> None:
 
 
 def main(words: list[str]) -> int:
-    if words[:1] != ["events"] and words[:2] not in (["counts", "csv"], ["faults", "csv"]):
-        os.execv(os.environ["FAKE_MMSHOW"], ["mmshow", *words])
     data = sys.stdin.buffer.read()
     files = words[1:] if words[0] == "events" else words[2:]
     script, answers = show.texts(files)

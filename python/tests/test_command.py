@@ -9,6 +9,7 @@ import sys
 from pathlib import Path
 
 import pytest
+from test_sweeps import small
 
 from melzudek import command
 
@@ -58,25 +59,26 @@ def test_run(capsys: pytest.CaptureFixture[str], tmp_path: Path) -> None:
 
 
 def test_sweep(capsys: pytest.CaptureFixture[str], tmp_path: Path) -> None:
-    to, picture = tmp_path / "rows.csv", tmp_path / "rows.svg"
-    words = ["sweep", TWO, "--vary", "frames=24..96..24", "age=0,16", "--workers", "1"]
+    script, to, picture = (tmp_path / name for name in ("small.mm", "rows.csv", "rows.svg"))
+    script.write_text("".join(line + "\n" for line in small()), "ascii")
+    words = ["sweep", str(script), "--vary", "frames=4,8..24..8", "age=0,4", "--workers", "1"]
     status, said, _ = answer(capsys, *words, "--to", str(to), "--picture", str(picture))
     assert status == 0 and picture.exists()
     head, *rows = [line.split() for line in said.splitlines()]
-    assert [row[:2] for row in rows] == [[f, a] for f in "24 48 72 96".split() for a in ("0", "16")]
+    assert [row[:2] for row in rows] == [[f, a] for f in "4 8 16 24".split() for a in ("0", "4")]
+    assert rows[0][2:6] == ["a", "machine", "of", "this"]
+    assert [row[head.index("zero")] for row in rows[2:]] == ["24"] * 6
     assert len(list(csv.DictReader(to.read_text("utf-8").splitlines()))) == 8
-    # docs/GUIDE.md has the counts of 24 and 48 page frames, aged each 16 references
-    hard = head.index("hard")
-    assert [rows[at][hard] for at in (1, 3)] == ["300", "300"]
     status, _, told = answer(capsys, *words, "--to", str(to))
     assert status == 1 and told.endswith("go on with it (resume), or name another file\n")
 
 
 def test_compare_and_page(capsys: pytest.CaptureFixture[str], tmp_path: Path) -> None:
     files = [tmp_path / name for name in ("both.svg", "faults.csv", "page.html")]
-    more = tmp_path / "more.mm"
-    more.write_text(Path(TWO).read_text("ascii").replace("machine 64", "machine 96", 1), "ascii")
-    words = ["compare", TWO, str(more), "--picture", str(files[0]), "--faults", str(files[1])]
+    one, more = tmp_path / "one.mm", tmp_path / "more.mm"
+    one.write_text("".join(line + "\n" for line in small()), "ascii")
+    more.write_text(one.read_text("ascii").replace("machine 16", "machine 20", 1), "ascii")
+    words = ["compare", str(one), str(more), "--picture", str(files[0]), "--faults", str(files[1])]
     status, said, _ = answer(capsys, *words)
     assert status == 0 and said.startswith("matched by line; the first moves that differ:\n--- one")
     status, _, told = answer(capsys, "page", PRESSURE, "--to", str(files[2]))
@@ -98,7 +100,7 @@ def test_trace_and_manage(capsys: pytest.CaptureFixture[str], tmp_path: Path) ->
     status, said, _ = answer(capsys, "trace", "csv", trace, "--frames", "24", "--to", str(to))
     assert status == 0 and len(said.splitlines()) == 2
     row = only_row(said)
-    # docs/GUIDE.md has what LRU and the optimum have on these references
+    # examples/two-processes.table has what LRU and the optimum have on these references
     assert (row["references"], row["lru"], row["optimum"]) == ("800", "300", "252")
     status, told, _ = answer(capsys, "run", str(to))
     assert status == 0 and f"{row['hard']} hard" in told

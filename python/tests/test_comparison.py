@@ -2,13 +2,13 @@
 
 from __future__ import annotations
 
+import random
 from pathlib import Path
 
 import pytest
 
 from melzudek.comparison import compare
 from melzudek.page_states import CODES, page_states
-from melzudek.scripts import read_script, varied
 from melzudek.tables import run
 
 EXAMPLES = Path(__file__).resolve().parents[2] / "examples"
@@ -67,16 +67,27 @@ def test_a_run_that_is_shorter() -> None:
     assert "no such line" in str(two)
 
 
-def test_one_more_page_frame_for_sort() -> None:
-    script = read_script(EXAMPLES / "sort.mm")
-    two = compare(varied(script, {"frames": 128}), varied(script, {"frames": 129}))
+def drawn(frames: int, references: int = 500) -> list[str]:
+    """References to 40 pages, most of them near one another."""
+    draw = random.Random(7)
+    lines = [f"machine {frames} 64 1 0", "process 0 64", "alloc 1 0x10000 0x28000 0x3000 0x4"]
+    for at in range(references):
+        page = (at // 20 + draw.randrange(12)) % 40 if draw.random() < 0.8 else draw.randrange(40)
+        lines += [f"write 1 0x{0x10000 + 4096 * page:X} 41"]
+        lines += ["age 1"] if at % 8 == 7 else []
+    return lines
+
+
+def test_one_more_page_frame() -> None:
+    two = compare(drawn(20), drawn(21))
     hard = [it.totals["hard"] for it in two.runs]
     table = two.faults[two.faults["fault"] == "hard"]
+    assert hard[0] != hard[1]
     assert table["gone"].sum() - table["new"].sum() == hard[0] - hard[1]
     assert two.cumulative()["difference"].tolist()[-1] == hard[1] - hard[0]
-    # the first line where the 129th page frame is of use is the first fault that finds none free
+    # the first line where the 21st page frame is of use is the first fault that finds none free
     assert two.first and two.first.lines[0] == two.first.lines[1]
-    assert "frame 128" in two.first.words[1]
+    assert "frame 20" in two.first.words[1] and "frame 20" not in two.first.words[0]
 
 
 @pytest.mark.parametrize("name", ["under-pressure", "copy-view", "short-of-frames"])

@@ -61,8 +61,8 @@ def test_pictures_are_the_same_each_time(tmp_path: Path) -> None:
     assert pictures.lists(one).drawn("svg").count(b"<path") > 20
     assert pictures.inline(pictures.charge(one)).startswith("<svg")
     assert pictures.charge(observe(EXAMPLES / "copy-view.mm")).figure.axes[0].lines
-    script = read_script(EXAMPLES / "two-processes.mm")
-    two = compare(varied(script, {"frames": 24}), varied(script, {"frames": 48}))
+    script = read_script(EXAMPLES / "far-past-the-frames.mm")
+    two = compare(script, varied(script, {"frames": 12}))
     assert two.picture(["hard", "zero"]).drawn("svg") and "<svg" in two._repr_html_()
 
 

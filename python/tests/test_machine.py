@@ -8,6 +8,7 @@ import signal
 import subprocess
 import threading
 import time
+from collections.abc import Callable
 from pathlib import Path
 
 import pytest
@@ -166,7 +167,7 @@ def test_threads_and_stacks() -> None:
 def test_refusals() -> None:
     with Machine(frames=8, slots=8, blocks=4) as m:
         p = m.process()
-        codes = {
+        codes: dict[int, Callable[[], object]] = {
             2: lambda: p.open("nobody"),
             5: lambda: p.create_file("f", PAGE.READONLY).map(FILE_MAP.WRITE),
             6: lambda: m.ask("age 9"),

@@ -10,7 +10,7 @@ from hypothesis import HealthCheck, given, settings
 from hypothesis import strategies as draw
 from test_machine import HEAD, LINE
 
-from melzudek import MEM, PAGE, Machine, Mistake, observe
+from melzudek import MEM, PAGE, Machine, Mistake, Process, observe
 from melzudek.observe import Different, Observer, Space, region_of
 
 MORE = draw.one_of(
@@ -37,8 +37,6 @@ def test_windows_tell_what_whole_walks_tell(lines: list[str]) -> None:
         assert " ".join(map(str, seen.counts[-1].counts)) == machine.send("counts")[3:]
         for pid in living:
             if machine.send(f"query {pid} 0x10000").startswith("ok"):
-                from melzudek import Process
-
                 walked = list(Process(machine, pid).regions())
                 assert seen.space(pid, len(script)) == walked
             else:

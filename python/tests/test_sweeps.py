@@ -11,20 +11,17 @@ import pytest
 from clusters import cluster
 
 from melzudek import Mistake
-from melzudek.scripts import processes, read_script, varied
-from melzudek.sweeps import sweep
+from melzudek.scripts import processes, varied
+from melzudek.sweeps import Cluster, sweep
 from melzudek.tables import run
 from melzudek.workers import BulkSource, Failure, ScriptSource, packed, placed, tools, unpacked
 
-EXAMPLES = Path(__file__).resolve().parents[2] / "examples"
-SORT = EXAMPLES / "sort.mm"
-
 
 @pytest.fixture(scope="module")
-def scheduler(tmp_path_factory: pytest.TempPathFactory) -> Iterator[str]:
-    """The address of a scheduler with one worker, for tests that end none."""
-    with cluster(tmp_path_factory.mktemp("cluster"), 1) as own:
-        yield own.address
+def two() -> Iterator[Cluster]:
+    """Two workers of this machine, each a process."""
+    with Cluster(workers=2) as those:
+        yield those
 
 
 def small(pages: int = 24, rounds: int = 8) -> list[str]:
@@ -33,6 +30,16 @@ def small(pages: int = 24, rounds: int = 8) -> list[str]:
     for turn in range(rounds * pages):
         word, byte = ("write", "41") if turn % 3 else ("read", "1")
         lines.append(f"{word} 1 0x{0x10000 + turn * 7 % pages * 4096:X} {byte}")
+    return lines
+
+
+def pair(references: int = 160) -> list[str]:
+    """Two processes: the first reads its eight pages in turn, the second writes its forty."""
+    lines = ["machine 24 64 1 0", "process 0 64", "process 0 64"]
+    lines += ["alloc 1 0x10000 0x8000 0x3000 0x4", "alloc 2 0x10000 0x28000 0x3000 0x4"]
+    for at in range(references):
+        lines.append(f"read 1 0x{0x10000 + at % 8 * 4096:X} 1")
+        lines.append(f"write 2 0x{0x10000 + at * 7 % 40 * 4096:X} 41")
     return lines
 
 
@@ -45,11 +52,11 @@ def ends(rows: list[dict[str, Any]], *names: str) -> list[tuple[str, ...]]:
     return sorted(tuple(str(row[name]) for name in names) for row in rows)
 
 
-def test_rows_are_those_of_single_runs(tmp_path: Path) -> None:
-    script, to = read_script(EXAMPLES / "two-processes.mm"), tmp_path / "rows.csv"
-    vary = {"frames": [24, 64], "minimum:1": [0, 8], "age": [0, 16]}
-    rows = list(sweep(script, vary, to, workers=2, progress=False))
-    assert len(rows) == 8
+def test_rows_are_those_of_single_runs(tmp_path: Path, two: Cluster) -> None:
+    script, to = pair(), tmp_path / "rows.csv"
+    vary = {"frames": [20, 24], "minimum:1": [0, 8], "age": [16]}
+    rows = list(sweep(script, vary, to, cluster=two, progress=False))
+    assert len(rows) == 4
     for row in rows:
         one = run(varied(script, {name: row[name] for name in vary}))
         counted = one.totals
@@ -58,32 +65,32 @@ def test_rows_are_those_of_single_runs(tmp_path: Path) -> None:
         assert row["repurposed"] == counted["steals"]
         hard = one.faults[one.faults["fault"] == "hard"]["process"].value_counts()
         assert [row["hard:1"], row["hard:2"]] == [hard.get(1, 0), hard.get(2, 0)]
-        assert sum(line.startswith("age ") for line in one.lines) == (50 if row["age"] else 0)
+        # 160 references of each process
+        assert sum(line.startswith("age ") for line in one.lines) == 2 * 10
+        assert row["references"] == 320
     written = read(to)
     assert ends(written, *vary, "hard") == ends(rows, *vary, "hard")
 
 
-def test_failures_are_rows(scheduler: str) -> None:
+def test_failures_are_rows(two: Cluster) -> None:
     lines = [*small(), "free 1 0x10000 0 0x8000", "read 1 0x10000 1"]
     vary = {"frames": [4, 16], "slots": [0, 64]}
-    rows = list(sweep(lines, vary, scheduler=scheduler, progress=False))
+    rows = list(sweep(lines, vary, cluster=two, progress=False))
     why = {(row["frames"], row["slots"]): row["reason"] for row in rows}
     assert why[4, 64] == "a machine of this depth has at least 6 page frames"
     assert why[16, 0] == "line 3, `alloc 1 0x10000 0x40000 0x3000 0x4`, is answered `error 1455`"
     last = f"line {len(lines)}, `read 1 0x10000 1`, is answered `raise 0xC0000005`"
     assert why[16, 64] == last
-    wrong = list(
-        sweep([*small(), "nonsense"], {"frames": [16]}, scheduler=scheduler, progress=False)
-    )
+    wrong = list(sweep([*small(), "nonsense"], {"frames": [16]}, cluster=two, progress=False))
     assert "mmsim ends with status 3: bad line" in wrong[0]["reason"]
     source = ScriptSource(lines, refusals=True)
-    allowed = list(sweep(source, {"frames": [16]}, scheduler=scheduler, progress=False))
+    allowed = list(sweep(source, {"frames": [16]}, cluster=two, progress=False))
     assert "reason" not in allowed[0] and allowed[0]["zero"] == 24
 
 
-def test_resume_and_shares(tmp_path: Path, scheduler: str) -> None:
+def test_resume_and_shares(tmp_path: Path, two: Cluster) -> None:
     to, vary = tmp_path / "rows.csv", {"frames": range(8, 20), "age": [0, 8]}
-    first = sweep(small(), vary, to, scheduler=scheduler, progress=False)
+    first = sweep(small(), vary, to, cluster=two, progress=False)
     for _ in range(7):
         next(first)
     first.close()  # type: ignore[attr-defined]  # as an interrupt would
@@ -92,12 +99,8 @@ def test_resume_and_shares(tmp_path: Path, scheduler: str) -> None:
         file.write("19,8,19")  # a row that was cut off
     with pytest.raises(Mistake, match="is there already: go on with it"):
         list(sweep(small(), vary, to, progress=False))
-    rest = list(
-        sweep(small(), vary, to, resume=True, only=(1, 2), scheduler=scheduler, progress=False)
-    )
-    rest += list(
-        sweep(small(), vary, to, resume=True, only=(2, 2), scheduler=scheduler, progress=False)
-    )
+    rest = list(sweep(small(), vary, to, resume=True, only=(1, 2), cluster=two, progress=False))
+    rest += list(sweep(small(), vary, to, resume=True, only=(2, 2), cluster=two, progress=False))
     assert len(rest) == 17
     every = [(str(frames), str(age)) for frames in range(8, 20) for age in (0, 8)]
     assert ends(read(to), "frames", "age") == sorted(every)
@@ -120,8 +123,8 @@ def test_a_worker_that_is_ended_costs_no_row(tmp_path: Path) -> None:
     assert all(row["zero"] == 24 for row in rows)
 
 
-def test_seeds(scheduler: str) -> None:
-    rows = list(sweep(BulkSource(300), {"seed": [1, 2, 3]}, scheduler=scheduler, progress=False))
+def test_seeds(two: Cluster) -> None:
+    rows = list(sweep(BulkSource(300), {"seed": [1, 2, 3]}, cluster=two, progress=False))
     assert len({row["hard"] for row in rows}) > 1
     assert all(row["hard:1"] + row["hard:2"] == row["hard"] for row in rows)
 

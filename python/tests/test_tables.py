@@ -15,7 +15,7 @@ from melzudek.scripts import read_script
 from melzudek.tables import TooOld, load, run
 
 EXAMPLES = Path(__file__).resolve().parents[2] / "examples"
-NAMES = ["under-pressure", "short-of-frames", "collided-fault", "copy-view", "two-processes"]
+NAMES = ["under-pressure", "short-of-frames", "collided-fault", "copy-view", "who-goes-first"]
 SHORT = "machine 8 8 1 0\nprocess 0 4\nalloc 1 0 0x2000 0x3000 0x4\nwrite 1 0x10000 AA\n"
 
 

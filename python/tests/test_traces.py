@@ -103,8 +103,10 @@ def test_filtered_moves_are_the_wholes(
     loops: list[tuple[list[str], int]], data: draw.DataObject
 ) -> None:
     text = "".join("\n".join(lines) + "\n" for lines, times in loops for _ in range(times)).encode()
-    paces = [(data.draw(draw.integers(0, 40)), data.draw(draw.integers(1, 3))) for _ in range(4)]
-    rhythm = Rhythm.of(data.draw(draw.integers(0, 60)), *paces)
+    trim, writer, zeroer, io_pace = (
+        (data.draw(draw.integers(0, 40)), data.draw(draw.integers(1, 3))) for _ in range(4)
+    )
+    rhythm = Rhythm.of(data.draw(draw.integers(0, 60)), trim, writer, zeroer, io_pace)
     frames, depth = data.draw(draw.integers(8, 24)), data.draw(draw.integers(1, 2))
     limits = {"": data.draw(draw.integers(1, 20))}
     setup = Setup(frames, depth=depth, rhythm=rhythm, maximum=limits, slots=200)
