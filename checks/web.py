@@ -162,7 +162,9 @@ def of_logs(draw: random.Random, native: Native) -> List[Case]:
         for spoiled in spoiled_logs(draw, log):
             found += [("mmlog", ["check"], spoiled, {}), ("mmlog", ["where", "s0.1"], spoiled, {})]
             found += [("mmshow", words, spoiled, files) for words in (FORMS[0], FORMS[3])]
-    found += [("mmlog", words, b"", {}) for words in ([], ["check", "x"], ["where"], ["where", "q"])]
+    found += [
+        ("mmlog", words, b"", {}) for words in ([], ["check", "x"], ["where"], ["where", "q"])
+    ]
     for path in sorted(glob.glob(f"{TOP}/tests/rows/logs/*.log")):
         found += [("mmlog", ["check"], read(path), {}), ("mmshow", ["tell"], read(path), {})]
     return found

@@ -93,9 +93,7 @@ class Page:
 
     def js(self, text: str) -> Any:
         """The value of an expression, awaited where it is a promise."""
-        said = self.call(
-            "Runtime.evaluate", expression=text, awaitPromise=True, returnByValue=True
-        )
+        said = self.call("Runtime.evaluate", expression=text, awaitPromise=True, returnByValue=True)
         if "exceptionDetails" in said:
             raise Trouble(f"{text[:120]}: {json.dumps(said['exceptionDetails'])[:600]}")
         return said["result"].get("value")

@@ -91,8 +91,12 @@ class Checks:
                 lines[-1].append(line.strip())
             else:
                 lines.append([])
-        every = "Promise.all([...Array(COUNT).keys()].map((i) => first.ask('tell', { line: i + 1 })))"
-        got = page.js(every.replace("COUNT", str(len(lines))) + ".then((all) => all.map((it) => it.moves))")
+        every = (
+            "Promise.all([...Array(COUNT).keys()].map((i) => first.ask('tell', { line: i + 1 })))"
+        )
+        got = page.js(
+            every.replace("COUNT", str(len(lines))) + ".then((all) => all.map((it) => it.moves))"
+        )
         self.same(f"{name}: moves in words", got, lines)
 
     def names(self, page: Page, name: str, wanted: Dict[str, str]) -> None:
@@ -123,12 +127,17 @@ class Checks:
                 shown = [" ".join(["ok", *(f"0x{it[key]:08X}" for key in keys)]) for it in regions]
                 shown.append(f"ok {got['charge']} {got['limit']}")
                 self.same(f"{name}: address spaces behind line {line}", shown, answers)
-                ends = [sum(it["regions"][-1][key] for key in ("base", "size")) for it in got["processes"]]
+                ends = [
+                    sum(it["regions"][-1][key] for key in ("base", "size"))
+                    for it in got["processes"]
+                ]
                 self.same(f"{name}: each walk ends at the end", set(ends) - {0x7FFF0000}, set())
 
     def mistakes(self, page: Page) -> None:
         """A mistake stands at its line with its reason, and goes when it is mended."""
-        self.after(page, "putText('machine 64 64 4 0\\nprocess 0 32\\n\\nraed 1 0x10000 4\\ncharge\\n')")
+        self.after(
+            page, "putText('machine 64 64 4 0\\nprocess 0 32\\n\\nraed 1 0x10000 4\\ncharge\\n')"
+        )
         reason = "no such word 'raed'; is 'read' meant?"
         row = "[...document.querySelectorAll('#answers .CodeMirror-line')].map((it) => it.textContent)[3]"
         self.holds("a mistake at its line", reason in page.js(row))
@@ -136,7 +145,9 @@ class Checks:
         sign = "!!editor.script.lineInfo(3).gutterMarkers?.signs"
         self.holds("a mistake's sign", page.js(sign))
         self.same("its word", page.js("document.querySelector('.under').textContent"), "raed")
-        self.after(page, "editor.script.replaceRange('read', { line: 3, ch: 0 }, { line: 3, ch: 4 })")
+        self.after(
+            page, "editor.script.replaceRange('read', { line: 3, ch: 0 }, { line: 3, ch: 4 })"
+        )
         self.holds("mended", "raise 0xC0000005" in page.js(row) and not page.js(sign))
         self.same("nothing is told", page.js("element('told').textContent"), "")
 
@@ -151,14 +162,21 @@ class Checks:
         page.press("Enter")
         page.type("(1, 0, 64K, MEM_COM")
         page.wait("!!document.querySelector('.CodeMirror-hints')", 20)
-        self.holds("a name", "MEM_COMMIT" in page.js("document.querySelector('.CodeMirror-hints').textContent"))
+        self.holds(
+            "a name",
+            "MEM_COMMIT" in page.js("document.querySelector('.CodeMirror-hints').textContent"),
+        )
         page.press("Enter")
         page.type(", PAGE_READW")
         page.wait("!!document.querySelector('.CodeMirror-hints')", 20)
         page.press("Enter")
         page.type(")")
         page.wait("run.answers.length === 3 && run.answers[2] === 'ok 0x00010000'", 30)
-        self.same("what was typed", page.js("editor.script.getLine(2)"), "VirtualAlloc(1, 0, 64K, MEM_COMMIT, PAGE_READWRITE)")
+        self.same(
+            "what was typed",
+            page.js("editor.script.getLine(2)"),
+            "VirtualAlloc(1, 0, 64K, MEM_COMMIT, PAGE_READWRITE)",
+        )
         help_text = page.js("element('help').textContent")
         self.holds("the rule of its call", "MEM_RESERVE" in help_text and "1455" in help_text)
         page.press("Tab")
@@ -173,11 +191,18 @@ class Checks:
         page.js("editor.choose(32)")
         page.js("addEventListener('message', ({ data }) => (globalThis.heard = data))")
         page.wait("run.lineOf[editor.line()] === 20")
-        self.holds("its moves in words", "hard fault" in awaited(page, "element('moves').textContent", "hard fault"))
+        self.holds(
+            "its moves in words",
+            "hard fault" in awaited(page, "element('moves').textContent", "hard fault"),
+        )
         frame = "document.querySelector('iframe').contentWindow"
-        page.js(f"dispatchEvent(new MessageEvent('message', {{ data: {{ melzudek: 'chosen', line: 12 }}, source: {frame} }}))")
+        page.js(
+            f"dispatchEvent(new MessageEvent('message', {{ data: {{ melzudek: 'chosen', line: 12 }}, source: {frame} }}))"
+        )
         self.same("chosen right", page.js("editor.line()"), 22)
-        page.js("dispatchEvent(new MessageEvent('message', { data: { melzudek: 'chosen', line: 3 }, source: window }))")
+        page.js(
+            "dispatchEvent(new MessageEvent('message', { data: { melzudek: 'chosen', line: 3 }, source: window }))"
+        )
         self.same("chosen by another window", page.js("editor.line()"), 22)
 
     def share(self, page: Page) -> None:
@@ -198,15 +223,28 @@ class Checks:
     def files(self, page: Page) -> None:
         """What is saved is the run; a file that is dropped in is run."""
         self.after(page, "putExample('hard-fault')")
-        wanted = self.natively(page.js("data.examples.find(({ name }) => name === 'hard-fault').script"))
+        wanted = self.natively(
+            page.js("data.examples.find(({ name }) => name === 'hard-fault').script")
+        )
         page.js(CATCH_SAVED)
-        parts = {"script.mm": "plain", "answers.out": "answers", "moves.log": "log", "page.html": "page"}
+        parts = {
+            "script.mm": "plain",
+            "answers.out": "answers",
+            "moves.log": "log",
+            "page.html": "page",
+        }
         for name, part in parts.items():
             page.js(f"(element('save').value = {json.dumps(name)}, element('save').onchange())")
             page.wait(f"globalThis.saved[{json.dumps(name)}] !== undefined", 20)
-            self.same(f"saved: {name}", page.js(f"globalThis.saved[{json.dumps(name)}]"), wanted[part])
+            self.same(
+                f"saved: {name}", page.js(f"globalThis.saved[{json.dumps(name)}]"), wanted[part]
+            )
         self.after(page, DROP)
-        self.same("a dropped file", page.js("[editor.text(), run.answers[0]]"), ["machine 9 1 1 0\n", "ok 6"])
+        self.same(
+            "a dropped file",
+            page.js("[editor.text(), run.answers[0]]"),
+            ["machine 9 1 1 0\n", "ok 6"],
+        )
 
     def second(self, page: Page) -> None:
         """A second machine: answers, faults and where they part, against native runs."""
@@ -221,11 +259,16 @@ class Checks:
             self.same(f"{name} {value}: answers", got["said"]["answers"], out.decode())
             _, counted, _ = self.native.run("mmlog", ["check"], log)
             numbers = dict(line.split(" ") for line in counted.decode().splitlines()[1:])
-            sums = {kind: sum(filter(None, got["said"]["other"][kind])) for kind in ("hard", "soft", "zero")}
+            sums = {
+                kind: sum(filter(None, got["said"]["other"][kind]))
+                for kind in ("hard", "soft", "zero")
+            }
             self.same(f"{name} {value}: faults", sums, {kind: int(numbers[kind]) for kind in sums})
         page.wait("element('parting').textContent.includes('part at line')", 30)
         page.wait("document.querySelectorAll('#over-frames circle').length > 10", 60)
-        self.holds("curves of both", page.js("document.querySelectorAll('#over-lines path').length === 2"))
+        self.holds(
+            "curves of both", page.js("document.querySelectorAll('#over-lines path').length === 2")
+        )
 
     def stop(self, page: Page) -> None:
         """A long run can be stopped, and the next one goes on as ever."""
@@ -270,10 +313,15 @@ class Checks:
             image = "new Promise((end) => { const it = new Image(); it.onload = () => end('loaded'); it.onerror = () => end('refused'); it.src = 'https://example.org/a.png'; })"
             self.same("an image", page.js(image), "refused")
             said = json.dumps(page.events)
-            self.holds("its policy refuses it", "Content Security Policy" in said and "default-src" in said)
+            self.holds(
+                "its policy refuses it", "Content Security Policy" in said and "default-src" in said
+            )
             page.js("1")
             text = page.js("document.querySelector('meta[http-equiv]').content")
-            self.holds("no source of a network", not re.search(r"https?:|\*|'self'|data:|connect-src", text))
+            self.holds(
+                "no source of a network",
+                not re.search(r"https?:|\*|'self'|data:|connect-src", text),
+            )
         finally:
             page.close()
 
@@ -286,7 +334,9 @@ class Checks:
                 self.holds(f"{what}: no line of the page is wider than the screen", wide)
                 for name in ("spaces", "second", "about", "frames"):
                     page.js(f"view('{name}')")
-                    self.holds(f"{what}: {name} is seen", page.js(f"element('{name}').offsetWidth > 200"))
+                    self.holds(
+                        f"{what}: {name} is seen", page.js(f"element('{name}').offsetWidth > 200")
+                    )
                 self.quiet(page, what)
             finally:
                 page.close()

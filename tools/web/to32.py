@@ -26,9 +26,7 @@ SIZED = re.compile(
     r"^(\s*call void @llvm\.mem(?:set|move|cpy)\.\S*?)\.i64\((.*), i64 (\S+), i1 (\w+)\)(.*)$", re.S
 )
 LOAD = re.compile(r"^(\s*)(%\S+) = load ptr, ptr (.+?), align (\d+)(.*)$", re.S)
-STORE = re.compile(
-    r"^(\s*)store ptr (.+), ptr ([^,]+|getelementptr .*), align (\d+)(.*)$", re.S
-)
+STORE = re.compile(r"^(\s*)store ptr (.+), ptr ([^,]+|getelementptr .*), align (\d+)(.*)$", re.S)
 PAIR = r"\{ [\w, ]*\bptr\b[\w, ]* \}"
 LOAD_PAIR = re.compile(rf"^  (%\S+) = load ({PAIR}), ptr (.+?), align (\d+)(.*)$", re.S)
 STORE_PAIR = re.compile(rf"^  store ({PAIR}) (%\S+), ptr (.+?), align (\d+)(.*)$", re.S)
@@ -36,6 +34,17 @@ AGGREGATE = re.compile(r"(load|store|alloca) (\{|<\{|\[\d+ x ptr)")
 WITH_POINTERS = re.compile(r"(load|store|alloca) .*\bptr\b.*\bptr\b")
 KNOWN_LOAD = re.compile(r"= load (i\d+|double|float|<\d+ x i\d+>), ptr")
 KNOWN_STORE = re.compile(r"store (i\d+|double|float|<\d+ x i\d+>) ")
+INSTRUCTION = re.compile(r"^  (?:%\S+ = )?(?:tail |musttail |notail )?([a-z]+)")
+ROW_OF_SWITCH = re.compile(r"^    i\d+ -?\d+, label |^  \]$")
+STEP = re.compile(r"getelementptr (?:inbounds |nuw |nusw )*\(?(?:i\d+),")
+KNOWN = frozenset(
+    "add alloca and ashr bitcast br call extractvalue fadd fcmp fdiv fmul fneg fptosi fptoui frem"
+    " fsub getelementptr icmp insertelement insertvalue inttoptr load lshr mul or phi ptrtoaddr"
+    " ptrtoint ret sdiv select sext shl shufflevector sitofp srem store sub switch trunc udiv"
+    " uitofp unreachable urem xor zext".split()
+)
+OTHER_CALL = re.compile(r"^[^@]*\basm\b|\bptr (?:\w+ )*(?:byval|inalloca|sret)\(")
+OF_NUMBERS = frozenset(["bitcast", "insertelement", "shufflevector"])
 
 
 def stop(what: str, line: str) -> None:
@@ -73,6 +82,8 @@ def fields(kinds: List[str], text: str, line: str) -> Iterator[Tuple[str, str]]:
 def constant(line: str) -> str:
     """A line of a constant, with four bytes of 0 behind each pointer in it."""
     head, _, rest = line.partition(" = ")
+    if line.count("getelementptr ") != len(STEP.findall(line)):
+        stop("a constant", line)
     if not re.match(CONSTANT + r"<\{", rest):
         if "ptr" in rest.split('c"')[0]:
             stop("a constant", line)
@@ -140,6 +151,20 @@ def sized(found: Match[str], name: str) -> Iterator[str]:
     yield f"{call}.i32({words}, i32 {size}, i1 {volatile}){rest}"
 
 
+def check_form(line: str) -> None:
+    """Stops where an instruction, or a step from one place to another, is not of a known form."""
+    if ROW_OF_SWITCH.match(line):
+        return
+    found = INSTRUCTION.match(line)
+    name = found[1] if found else ""
+    if name not in KNOWN or (name in OF_NUMBERS and re.search(r"\bptr\b", line)):
+        stop("an instruction", line)
+    if name == "call" and OTHER_CALL.search(line):
+        stop("a call", line)
+    if line.count("getelementptr ") != len(STEP.findall(line)):
+        stop("a step from one place to another", line)
+
+
 def is_of_try(line: str) -> bool:
     """Whether a line is one that only a module of `rt try` has."""
     fills = "i8 -86" in line and line.lstrip().startswith("call void @llvm.memset")
@@ -170,6 +195,7 @@ def single(line: str, name: str) -> Iterator[str]:
 
 def instruction(line: str, name: str) -> Iterator[str]:
     """The lines that stand for one of a function's body; `name` begins the names that are new."""
+    check_form(line)
     if found := LOAD_PAIR.match(line):
         yield from load_pair(found, name)
     elif found := STORE_PAIR.match(line):

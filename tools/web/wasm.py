@@ -116,7 +116,9 @@ def convert(clang: str, module: bytes, way: str, room: str, out: str) -> None:
     call([clang, *LINK, "-o", out, f"{room}/m.o", f"{room}/shim.o", *archives()], linker)
 
 
-def made(kit: str, program: str, module: bytes, way: str, kept: str, room: str) -> Dict[str, object]:
+def made(
+    kit: str, program: str, module: bytes, way: str, kept: str, room: str
+) -> Dict[str, object]:
     """The WebAssembly module of a program, with the sums of what it was made of and of itself."""
     clang = f"{kit}/toolchain/bin/clang"
     tools = [read(f"{HERE}/{name}") for name in ("to32.py", "shim.c")]

@@ -40,17 +40,18 @@ function drawCurves(svg, { from, to, series, marks = [], unit, picked }) {
     if (value >= from - 0.5 && value <= to + 0.5) picked?.(clamp(Math.round(value), from, to));
   };
 }
+const words = (place, text) => drawn('text', place, text);
 function axes({ from, to, most, across, up, unit }) {
   const parts = [];
   const stepUp = roundStep(most, 4);
   for (let y = 0; y <= most; y += stepUp) {
     parts.push(drawn('line', { x1: LEFT, x2: WIDE - RIGHT, y1: up(y), y2: up(y), class: 'rule' }));
-    parts.push(drawn('text', { x: LEFT - 6, y: up(y) + 4, 'text-anchor': 'end' }, spelled(y)));
+    parts.push(words({ x: LEFT - 6, y: up(y) + 4, 'text-anchor': 'end' }, spelled(y)));
   }
   const step = roundStep(to - from, 7);
   for (let x = Math.ceil(from / step) * step; x <= to; x += step)
-    parts.push(drawn('text', { x: across(x), y: HIGH - FOOT + 16, 'text-anchor': 'middle' }, spelled(x)));
-  parts.push(drawn('text', { x: WIDE - RIGHT, y: HIGH - 4, 'text-anchor': 'end', class: 'quiet' }, unit));
+    parts.push(words({ x: across(x), y: HIGH - FOOT + 16, 'text-anchor': 'middle' }, spelled(x)));
+  parts.push(words({ x: WIDE - RIGHT, y: HIGH - 4, 'text-anchor': 'end' }, unit));
   return parts;
 }
 function curve({ kind, points, isStepped, isDotted }, across, up) {
@@ -63,9 +64,10 @@ function curve({ kind, points, isStepped, isDotted }, across, up) {
   });
   const line = drawn('path', { d: path, class: 'curve ' + kind });
   if (!isDotted) return [line];
-  const dots = kept.map(([x, y]) =>
-    drawn('circle', { cx: across(x), cy: up(y), r: 3, class: 'dot ' + kind }, drawn('title', {}, `${spelled(x)}: ${spelled(y)}`)),
-  );
+  const dots = kept.map(([x, y]) => {
+    const title = drawn('title', {}, `${spelled(x)}: ${spelled(y)}`);
+    return drawn('circle', { cx: across(x), cy: up(y), r: 3, class: 'dot ' + kind }, title);
+  });
   return [line, ...dots];
 }
 function key(series) {
@@ -73,6 +75,6 @@ function key(series) {
     const y = TOP + 8 + 16 * i;
     const x = WIDE - RIGHT - 196;
     const line = drawn('line', { x1: x, x2: x + 22, y1: y, y2: y, class: 'curve ' + kind });
-    return [line, drawn('text', { x: x + 28, y: y + 4 }, name)];
+    return [line, words({ x: x + 28, y: y + 4 }, name)];
   });
 }

@@ -91,7 +91,8 @@ function makeEditor({ changed, moved, run }) {
   }
   function writeLine(i, text) {
     const length = answers.getLine(i)?.length;
-    if (length !== undefined) answers.replaceRange(text, { line: i, ch: 0 }, { line: i, ch: length });
+    if (length === undefined) return;
+    answers.replaceRange(text, { line: i, ch: 0 }, { line: i, ch: length });
   }
   // What is wrong, or to be warned of, at its lines.
   function showSigns(signs) {
@@ -102,7 +103,8 @@ function makeEditor({ changed, moved, run }) {
       for (const sign of signs) putSign(sign);
     });
   }
-  // The text of each line's answer; without, the old answers stay, and what is wrong stands between them.
+  // The text of each line's answer. Without, the old answers stay, and what is wrong stands
+  // between them.
   function show(signs, texts) {
     showSigns(signs);
     answers.operation(() => {
@@ -126,7 +128,8 @@ function makeEditor({ changed, moved, run }) {
     const rest = script.getLine(at - 1).slice(column - 1);
     const length = (rest.match(/^[^\s,()]+/) ?? [' '])[0].length;
     const [from, to] = [column - 1, column - 1 + length].map((ch) => ({ line: at - 1, ch }));
-    marks.push(script.markText(from, to, { className: 'under ' + kind, attributes: { title: text } }));
+    const how = { className: 'under ' + kind, attributes: { title: text } };
+    marks.push(script.markText(from, to, how));
   }
   // Lines where the second machine answers otherwise.
   function part(lines) {
@@ -141,11 +144,11 @@ function makeEditor({ changed, moved, run }) {
   // ---- completion
   function complete(isAsked) {
     const { line: row, ch } = script.getCursor();
-    const { list, from } = suggestions(script.getValue(), script.getLine(row), ch, script.getValue());
+    const { list, from } = suggestions(script.getLine(row), ch, script.getValue());
     if (!list.length || (!isAsked && ch - from < 2)) return;
     const hint = () => {
       const { ch: now } = script.getCursor();
-      const found = suggestions('', script.getLine(row), now, script.getValue());
+      const found = suggestions(script.getLine(row), now, script.getValue());
       const [start, end] = [found.from, now].map((at) => ({ line: row, ch: at }));
       return { list: found.list, from: start, to: end };
     };

@@ -39,7 +39,8 @@ function attachFiles({ put, text, page, runs }) {
     const name = save.value;
     save.value = '';
     try {
-      const url = URL.createObjectURL(new Blob([await FILES[name][1]()], { type: 'application/octet-stream' }));
+      const blob = new Blob([await FILES[name][1]()], { type: 'application/octet-stream' });
+      const url = URL.createObjectURL(blob);
       make('a', { href: url, download: name }).click();
       setTimeout(() => URL.revokeObjectURL(url), 60000);
     } catch {

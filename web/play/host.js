@@ -1,6 +1,6 @@
 // The host of a program: one run of it, a new instance each time, so no run leaves anything behind.
-// `input` is the bytes of standard input, or a function that is asked for more: it is given what was
-// written to standard output so far, and answers bytes, none of them at the end. `files` are
+// `input` is the bytes of standard input, or a function that is asked for more: it is given what
+// was written to standard output so far, and answers bytes, none of them at the end. `files` are
 // what mmshow may open, by name. The answer is the status, and the bytes of both streams.
 'use strict';
 const NO_SUCH_FILE = -2;
@@ -33,7 +33,8 @@ function runProgram(module, words, input, files = {}) {
       if (!file) return NOT_OPEN;
       fill(file);
       const count = Math.min(room, file.bytes.length - file.at);
-      new Uint8Array(memory.buffer, place, count).set(file.bytes.subarray(file.at, file.at + count));
+      const part = file.bytes.subarray(file.at, file.at + count);
+      new Uint8Array(memory.buffer, place, count).set(part);
       file.at += count;
       return count;
     },

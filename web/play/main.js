@@ -13,7 +13,9 @@ let typing;
 
 const lineCount = () => editor.script.lineCount();
 const isLong = () => lineCount() > AT_EACH_CHANGE;
-const frame = makeFrame(element('frames'), (line) => run?.written[line] && editor.choose(run.written[line]));
+const frame = makeFrame(element('frames'), (line) => {
+  if (run?.written[line]) editor.choose(run.written[line]);
+});
 const editor = makeEditor({ changed, moved: showLine, run: () => start() });
 const spaces = makeSpaces(element('spaces'), first, (line) => run.written[line]);
 const second = makeSecond({
@@ -29,7 +31,8 @@ function changed(isNew) {
   clearTimeout(typing);
   const isLive = element('live').checked && !isLong();
   if (isLive) typing = setTimeout(start, isNew ? 0 : REST);
-  else say(isLong() ? 'More than 20,000 lines: run it by the button.' : 'Changed since it was run.');
+  else if (isLong()) say('More than 20,000 lines: run it by the button.');
+  else say('Changed since it was run.');
 }
 async function start() {
   clearTimeout(typing);
@@ -44,7 +47,8 @@ async function start() {
   try {
     await show(await first.ask('run', { script, wantsPage: true }), performance.now() - busy);
   } catch (error) {
-    say(error.message === 'stopped' ? 'Stopped.' : 'A program ended early: ' + error.message, 'bad');
+    const { message } = error;
+    say(message === 'stopped' ? 'Stopped.' : 'A program ended early: ' + message, 'bad');
   }
   clearTimeout(slow);
   busy = 0;
@@ -55,12 +59,13 @@ function stop() {
   isStale = false;
   first.stop();
 }
-const signOf = (text) => {
-  const found = /^(warning: )?line (\d+)(?: column (\d+))?: ([^]*)/.exec(text);
-  if (!found) return { line: 0, text: '\u2717 ' + text, kind: 'mistake' };
+const signOf = (told) => {
+  const found = /^(warning: )?line (\d+)(?: column (\d+))?: ([^]*)/.exec(told);
+  if (!found) return { line: 0, text: '\u2717 ' + told, kind: 'mistake' };
   const [, isWarning, line, column, reason] = found;
   const kind = isWarning ? 'warned' : 'mistake';
-  return { line: Number(line), column: Number(column), kind, text: (isWarning ? '\u26a0 ' : '\u2717 ') + reason };
+  const text = (isWarning ? '\u26a0 ' : '\u2717 ') + reason;
+  return { line: Number(line), column: Number(column), kind, text };
 };
 // What stands beside each line, made piece by piece, so that the page goes on between.
 async function textsOf({ answers, written }, signs) {
@@ -74,7 +79,8 @@ async function textsOf({ answers, written }, signs) {
     const meaning = meaningOf(keyword, answer);
     texts[line - 1] = shortOf(keyword, answer) + (meaning && '  ' + meaning);
   }
-  for (const { line, text } of signs) texts[line - 1] = text + (texts[line - 1] && '  ' + texts[line - 1]);
+  for (const { line, text } of signs)
+    texts[line - 1] = [text, texts[line - 1]].filter(Boolean).join('  ');
   return texts;
 }
 const keywordAt = (line = '') => keywordOf((line.match(/[A-Za-z]+/) ?? [''])[0]) ?? '';
@@ -122,8 +128,11 @@ async function handOver() {
   }
 }
 function showTold(signs) {
-  const item = ({ line, text, kind }) =>
-    make('button', { class: 'link ' + kind, onclick: () => editor.choose(line, true) }, (line ? `line ${line}: ` : '') + text.slice(2));
+  const item = ({ line, text, kind }) => {
+    const words = (line ? `line ${line}: ` : '') + text.slice(2);
+    const onclick = () => editor.choose(line, true);
+    return make('button', { class: 'link ' + kind, onclick }, words);
+  };
   element('told').replaceChildren(...signs.map(item));
 }
 
@@ -135,7 +144,8 @@ async function showLine(line) {
   const words = editor.script.getLine(line - 1) ?? '';
   const answer = at ? run.answers[at - 1] : '';
   const meaning = answer && meaningOf(keywordAt(words), answer);
-  element('answer').textContent = answer ? `Line ${line}: ${answer}${meaning && ' \u2013 ' + meaning}` : '';
+  const told = [answer, meaning].filter(Boolean).join(' \u2013 ');
+  element('answer').textContent = told && `Line ${line}: ${told}`;
   if (!at) return putMoves([]);
   frame.choose(at);
   if (!element('spaces').hidden) spaces.draw(at);
@@ -148,19 +158,22 @@ async function askMoves(at, line) {
 }
 function putMoves(moves) {
   element('moves').hidden = !moves.length;
-  element('moves').querySelector('ul').replaceChildren(...moves.map((words) => make('li', {}, words)));
+  const items = moves.map((words) => make('li', {}, words));
+  element('moves').querySelector('ul').replaceChildren(...items);
 }
 function showForm() {
   const place = editor.word();
   const keyword = place?.keyword;
   element('form').hidden = element('help').hidden = !keyword;
   if (!keyword) return;
-  const words = formsOf(keyword).map((name, i) => make(i + 1 === place.at ? 'b' : 'span', {}, name));
+  const shown = (name, i) => make(i + 1 === place.at ? 'b' : 'span', {}, name);
+  const words = formsOf(keyword).map(shown);
   const parts = words.flatMap((word, i) => (i ? [', ', word] : [word]));
   const isCall = place.first.toLowerCase() !== keyword;
   const call = CALL_OF[keyword];
   const also = call ? `  = ${isCall ? keyword : call}` : '';
-  element('form').replaceChildren(make('code', {}, make('strong', {}, place.first), '(', ...parts, ')'), make('span', { class: 'quiet' }, also));
+  const form = make('code', {}, make('strong', {}, place.first), '(', ...parts, ')');
+  element('form').replaceChildren(form, make('span', { class: 'quiet' }, also));
   element('help').querySelector('div').innerHTML = data.help.texts[keyword] ?? '';
   element('help').querySelector('summary').textContent = `The rule of ${place.first}`;
 }
@@ -180,7 +193,9 @@ function view(name) {
   if (name === 'spaces') spaces.draw(run?.lineOf[editor.line()]);
   if (name === 'second') handOver();
 }
-element('views').addEventListener('click', ({ target }) => target.dataset.view && view(target.dataset.view));
+element('views').addEventListener('click', ({ target }) => {
+  if (target.dataset.view) view(target.dataset.view);
+});
 element('views').addEventListener('keydown', ({ key, target }) => {
   const step = { ArrowRight: 1, ArrowLeft: -1 }[key];
   if (!step) return;
@@ -262,12 +277,20 @@ function drag(bar, moved) {
     editor.resize();
   };
 }
+const WAYS = {
+  proved: 'The proved programs, compiled for the browser',
+  tried: 'The programs, compiled for the browser of their sources before the proofs (by rt try)',
+};
 function showAbout() {
   const { cases, way, rows, rules, licence } = data.built;
-  const kind = way === 'proved' ? 'The proved programs, compiled for the browser' : 'The programs, compiled for the browser from their sources before the proofs (by rt try)';
+  const kind = WAYS[way];
   const compared = cases ? `; compared with the native ones on ${spelled(cases)} cases` : '';
   element('honest').textContent = `${kind}${compared}.`;
-  element('built').append(...rows.map(([name, value]) => make('tr', {}, make('th', { scope: 'row' }, name), make('td', {}, make('code', {}, value)))));
+  const cells = ([name, value]) => [
+    make('th', { scope: 'row' }, name),
+    make('td', {}, make('code', {}, value)),
+  ];
+  element('built').append(...rows.map((it) => make('tr', {}, cells(it))));
   element('rules').innerHTML = rules;
   element('licence').textContent = licence;
 }

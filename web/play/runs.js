@@ -1,5 +1,5 @@
-// The conversation with the workers: each question is answered by a promise. `stop` ends a worker, whatever it
-// does, and starts another; the programs are compiled once for all.
+// The conversation with the workers: each question is answered by a promise. `stop` ends a worker,
+// whatever it does, and starts another; the programs are compiled once for all.
 let compiled = null;
 
 function makeWorker() {

@@ -1,5 +1,6 @@
-// A second machine beside the first: the same script with other numbers of page frames and slots and
-// other bounds of working sets; where the two part; faults gained and lost; a sweep over page frames.
+// A second machine beside the first: the same script with other numbers of page frames and slots,
+// and other bounds of working sets; where the two part; faults gained and lost; a sweep over page
+// frames.
 const KINDS = { hard: 'Hard faults', soft: 'Soft faults', zero: 'Demand-zero faults' };
 const SWEEP_POINTS = 40;
 const SWEEP_AT_ONCE = 3000; // lines; a longer script is swept on request
@@ -23,14 +24,15 @@ function makeSecond({ runs, section, current, choose, parted }) {
   // ---- the sliders
   function describe(plain) {
     const [, frames, slots, depth] = /^machine (\d+) (\d+) (\d+)/.exec(plain).map(Number);
-    const sets = [...plain.matchAll(/^process (\d+) (\d+)$/gm)].map(([, min, max]) => [Number(min), Number(max)]);
+    const lines = [...plain.matchAll(/^process (\d+) (\d+)$/gm)];
+    const sets = lines.map(([, min, max]) => [Number(min), Number(max)]);
     const least = Math.max(0, ...sets.map(([min]) => min));
     const most = Math.max(1, ...sets.map(([, max]) => max));
     const fewest = 2 * depth + 4;
     return { frames, slots, least, most, fewest };
   }
   const SLIDERS = {
-    frames: ['Page frames', () => first.fewest, () => Math.max(2 * first.frames, first.fewest + 24), MOST_FRAMES],
+    frames: ['Page frames', () => first.fewest, () => rangeOfSweep()[1], MOST_FRAMES],
     slots: ['Paging-file slots', () => 0, () => Math.max(2 * first.slots, 16), MOST_FRAMES],
     least: ['Minimum of working sets', () => 0, () => Math.max(2 * first.most, 16), MOST_SET],
     most: ['Maximum of working sets', () => 1, () => Math.max(2 * first.most, 16), MOST_SET],
@@ -42,11 +44,12 @@ function makeSecond({ runs, section, current, choose, parted }) {
     const rows = Object.entries(SLIDERS).map(([name, [words, from, to, top]]) => {
       const [min, max] = [from(), Math.min(to(), top)];
       const value = clamp(valueOf(name), min, top);
-      const common = { min, value, 'data-name': name };
-      const range = make('input', { type: 'range', max: Math.max(max, value), 'aria-label': words, ...common });
-      const number = make('input', { type: 'number', max: top, 'aria-label': words, ...common });
+      const common = { min, value, 'data-name': name, 'aria-label': words };
+      const range = make('input', { type: 'range', max: Math.max(max, value), ...common });
+      const number = make('input', { type: 'number', max: top, ...common });
       const varies = name === 'least' || name === 'most' ? ' (as each process says)' : '';
-      const was = make('span', { class: 'quiet' }, `first: ${spelled(first[name])}${second[name] === undefined ? varies : ''}`);
+      const told = `first: ${spelled(first[name])}${second[name] === undefined ? varies : ''}`;
+      const was = make('span', { class: 'quiet' }, told);
       return make('div', { class: 'slider' }, make('label', {}, words), range, number, was);
     });
     const again = make('button', { onclick: () => (reset(), update()) }, 'As the first');
@@ -71,7 +74,10 @@ function makeSecond({ runs, section, current, choose, parted }) {
     second = {};
     putSliders();
   }
-  const machine = () => ({ frames: valueOf('frames'), slots: valueOf('slots'), least: second.least, most: second.most });
+  function machine() {
+    const { least, most } = second;
+    return { frames: valueOf('frames'), slots: valueOf('slots'), least, most };
+  }
 
   // ---- the comparison
   async function ask() {
@@ -95,28 +101,36 @@ function makeSecond({ runs, section, current, choose, parted }) {
   function differing() {
     const { answers } = current();
     const count = Math.max(answers.length, said.answers.length);
-    return [...Array(count).keys()].filter((i) => answers[i] !== said.answers[i] && i > 0).map((i) => i + 1);
+    const lines = [...Array(count).keys()].filter((i) => i && answers[i] !== said.answers[i]);
+    return lines.map((i) => i + 1);
   }
-  const lineButton = (line, words) =>
-    make('button', { class: 'link', onclick: () => choose(current().written[line]) }, words ?? `line ${current().written[line]}`);
+  function lineButton(line, before = 'line ') {
+    const written = current().written[line];
+    return make('button', { class: 'link', onclick: () => choose(written) }, before + written);
+  }
   function showParting() {
     const lines = differing();
     parted(lines.map((line) => current().written[line]));
     const answers = said.answers;
     const parts = [];
     const isSame = Object.keys(SLIDERS).every((name) => valueOf(name) === first[name]);
-    if (said.status) parts.push(make('p', { class: 'bad' }, `The second run ended with status ${said.status}.`));
+    const ended = `The second run ended with status ${said.status}.`;
+    if (said.status) parts.push(make('p', { class: 'bad' }, ended));
     if (isSame) parts.push(make('p', {}, 'Both are the same machine: move a slider.'));
     else if (!lines.length) parts.push(make('p', {}, 'All answers are the same. '));
     else {
       const [at] = lines;
-      const told = `: ${current().answers[at - 1] ?? 'no answer'} on the first, ${answers[at - 1] ?? 'no answer'} on the second.`;
-      const more = lines.length > 1 ? ` ${plural(lines.length, 'answer differs', 'answers differ')} in all.` : '';
+      const [mine, other] = [current().answers, answers].map((list) => list[at - 1] ?? 'no answer');
+      const told = `: ${mine} on the first, ${other} on the second.`;
+      const more = ` ${plural(lines.length, 'answer differs', 'answers differ')} in all.`;
       parts.push(make('p', {}, 'The answers part at ', lineButton(at), told + more));
     }
-    if (!isSame && said.moved > 0) parts.push(make('p', {}, 'The page frames move otherwise from ', lineButton(said.moved), ' on.'));
-    else if (!isSame) parts.push(make('p', {}, 'Each page frame moves as on the first machine.'));
+    if (!isSame) parts.push(make('p', {}, ...movesPart()));
     element('parting').replaceChildren(...parts);
+  }
+  function movesPart() {
+    if (said.moved <= 0) return ['Each page frame moves as on the first machine.'];
+    return ['The page frames move otherwise from ', lineButton(said.moved), ' on.'];
   }
   const sumOf = (list) => list.reduce((all, count) => all + count, 0);
   function showGained() {
@@ -125,23 +139,31 @@ function makeSecond({ runs, section, current, choose, parted }) {
       const more = other - mine;
       const sign = more > 0 ? '+' : '';
       const style = more > 0 ? 'gained' : more < 0 ? 'lost' : 'quiet';
-      return make('tr', {}, make('th', { scope: 'row' }, words), make('td', {}, spelled(mine)), make('td', {}, spelled(other)), make('td', { class: style }, sign + spelled(more)));
+      const head = make('th', { scope: 'row' }, words);
+      const cells = [mine, other].map((sum) => make('td', {}, spelled(sum)));
+      return make('tr', {}, head, cells, make('td', { class: style }, sign + spelled(more)));
     });
-    const heads = ['', 'First', 'Second', 'Gained or lost'].map((head) => make('th', { scope: 'col' }, head));
-    const whole = make('table', { class: 'sums' }, make('thead', {}, make('tr', {}, heads)), make('tbody', {}, rows));
+    const names = ['', 'First', 'Second', 'Gained or lost'];
+    const heads = names.map((name) => make('th', { scope: 'col' }, name));
+    const head = make('thead', {}, make('tr', {}, heads));
+    const whole = make('table', { class: 'sums' }, head, make('tbody', {}, rows));
     element('gained').replaceChildren(whole, ...changedLines());
   }
   function changedLines() {
     const { hard: mine } = said.mine;
     const { hard: other } = said.other;
-    const lines = [...Array(Math.max(mine.length, other.length)).keys()].filter((i) => (mine[i] ?? 0) !== (other[i] ?? 0));
+    const count = Math.max(mine.length, other.length);
+    const lines = [...Array(count).keys()].filter((i) => (mine[i] ?? 0) !== (other[i] ?? 0));
     if (!lines.length) return [];
     const items = lines.slice(0, SHOWN_LINES).map((line) => {
       const more = (other[line] ?? 0) - (mine[line] ?? 0);
-      return make('li', { class: more > 0 ? 'gained' : 'lost' }, lineButton(line, String(current().written[line])), ` ${more > 0 ? '+' : ''}${more}`);
+      const sign = more > 0 ? ' +' : ' ';
+      return make('li', { class: more > 0 ? 'gained' : 'lost' }, lineButton(line, ''), sign + more);
     });
-    const left = lines.length > SHOWN_LINES ? [make('li', { class: 'quiet' }, `and ${spelled(lines.length - SHOWN_LINES)} more`)] : [];
-    return [make('h3', {}, 'Lines with more or fewer hard faults'), make('ul', { class: 'lines' }, items, left)];
+    const left = lines.length - SHOWN_LINES;
+    if (left > 0) items.push(make('li', { class: 'quiet' }, `and ${spelled(left)} more`));
+    const heading = make('h3', {}, 'Lines with more or fewer hard faults');
+    return [heading, make('ul', { class: 'lines' }, items)];
   }
 
   // ---- curves
@@ -153,21 +175,27 @@ function makeSecond({ runs, section, current, choose, parted }) {
     if (!said) return;
     const kind = element('kind').value;
     const to = Math.max(said.mine[kind].length, said.other[kind].length) - 1;
-    const one = (name, style, list) => ({ name, kind: style, points: upTo(list), isStepped: true });
-    const series = [one('first', 'first', said.mine[kind]), one('second', 'second', said.other[kind])];
+    const one = (name, list) => ({ name, kind: name, points: upTo(list), isStepped: true });
+    const series = [one('first', said.mine[kind]), one('second', said.other[kind])];
     const picked = (line) => choose(current().written[line]);
-    drawCurves(element('over-lines'), { from: 0, to, series, unit: 'lines of the plain script', picked });
+    const unit = 'lines of the plain script';
+    drawCurves(element('over-lines'), { from: 0, to, series, unit, picked });
   }
   function drawSweep() {
     if (!first) return;
     const kind = element('kind').value;
-    const points = sweep.map(({ frames, [kind]: count }) => [frames, count]).sort(([a], [b]) => a - b);
-    const refused = sweep.map(({ frames, refused: count }) => [frames, count]).sort(([a], [b]) => a - b);
+    const sorted = [...sweep].sort((a, b) => a.frames - b.frames);
+    const points = sorted.map((it) => [it.frames, it[kind]]);
+    const refused = sorted.map((it) => [it.frames, it.refused]);
     const series = [{ name: KINDS[kind].toLowerCase(), kind: 'second', points, isDotted: true }];
-    if (refused.some(([, count]) => count)) series.push({ name: 'answers other than ok', kind: 'refused', points: refused });
-    const marks = [{ x: first.frames, name: 'first', kind: 'first' }, { x: valueOf('frames'), name: 'second', kind: 'second' }];
+    if (refused.some(([, count]) => count))
+      series.push({ name: 'answers other than ok', kind: 'refused', points: refused });
+    const mark = (name, x) => ({ name, kind: name, x });
+    const marks = [mark('first', first.frames), mark('second', valueOf('frames'))];
     const [from, to] = rangeOfSweep();
-    drawCurves(element('over-frames'), { from, to, series, marks, unit: 'page frames', picked: (frames) => setTo('frames', frames) });
+    const picked = (frames) => setTo('frames', frames);
+    const unit = 'page frames';
+    drawCurves(element('over-frames'), { from, to, series, marks, unit, picked });
   }
   function rangeOfSweep() {
     return [first.fewest, Math.max(2 * first.frames, first.fewest + 24)];
@@ -181,8 +209,9 @@ function makeSecond({ runs, section, current, choose, parted }) {
     element('sweep').textContent = 'Stop';
     const [from, to] = rangeOfSweep();
     const count = Math.min(SWEEP_POINTS, to - from + 1);
-    const wanted = [...new Set([...Array(count).keys()].map((i) => Math.round(from + ((to - from) * i) / (count - 1))))];
-    for (const frames of halving(wanted)) {
+    const step = (to - from) / (count - 1);
+    const wanted = [...Array(count).keys()].map((i) => Math.round(from + step * i));
+    for (const frames of halving([...new Set(wanted)])) {
       const point = await runs.ask('sums', { machine: { ...machine(), frames } }).catch(() => null);
       if (sweeping !== mine) return;
       if (point && !point.status) sweep.push({ frames, ...point });

@@ -1,5 +1,11 @@
 // The address spaces behind the chosen line, as `query` lines tell them, and the charge.
 const MOST_CELLS = 64;
+const CELLS = {
+  valid: 'valid: in the working set',
+  memory: 'in memory: standby or modified (of private pages)',
+  committed: 'committed, and neither',
+  reserved: 'reserved',
+};
 
 function makeSpaces(place, runs, toldLine) {
   let wanted = 0;
@@ -12,7 +18,8 @@ function makeSpaces(place, runs, toldLine) {
       const said = await runs.ask('spaces', { line });
       place.replaceChildren(...shown(said));
     } catch (error) {
-      if (!/stopped/.test(error.message)) place.replaceChildren(make('p', {}, 'No run to ask: ' + error.message));
+      const why = make('p', {}, 'There is no run to ask.');
+      if (error.message !== 'stopped') place.replaceChildren(why);
     }
     isAsked = false;
     if (wanted !== line) draw(wanted);
@@ -21,18 +28,20 @@ function makeSpaces(place, runs, toldLine) {
     if (!processes) return [make('p', {}, 'The run ended before this line.')];
     const heading = make('h2', {}, `Behind line ${toldLine(line)}`);
     const where = placesIn(state);
-    const none = make('p', { class: 'quiet' }, 'No process lives here.');
-    return [heading, chargeBar(charge, limit), legend(), ...(processes.length ? processes.map((it) => table(it, where)) : [none])];
+    const tables = processes.map((it) => table(it, where));
+    if (!tables.length) tables.push(make('p', { class: 'quiet' }, 'No process lives here.'));
+    return [heading, chargeBar(charge, limit), legend(), ...tables];
   }
   function chargeBar(charge, limit) {
     const share = limit ? Math.round((100 * charge) / limit) : 0;
     const bar = make('span', { class: 'fill', style: `width:${share}%` });
     const words = `Commit charge: ${plural(charge, 'page')} of ${spelled(limit)} (${share} %)`;
-    return make('div', { class: 'charge', role: 'img', 'aria-label': words }, make('b', {}, words), make('span', { class: 'gauge' }, bar));
+    const gauge = make('span', { class: 'gauge', 'aria-hidden': 'true' }, bar);
+    return make('div', { class: 'charge' }, make('b', {}, words), gauge);
   }
   function legend() {
-    const kinds = [['valid', 'valid: in the working set'], ['memory', 'in memory: standby or modified'], ['committed', 'committed, and neither'], ['reserved', 'reserved']];
-    return make('ul', { class: 'legend' }, kinds.map(([kind, words]) => make('li', {}, make('i', { class: 'cell ' + kind }), words)));
+    const item = ([kind, words]) => make('li', {}, make('i', { class: 'cell ' + kind }), words);
+    return make('ul', { class: 'legend' }, Object.entries(CELLS).map(item));
   }
   return { draw };
 }
@@ -44,7 +53,8 @@ function placesIn(state) {
   const add = (map, pid, page) => map.set(pid, (map.get(pid) ?? new Set()).add(page));
   for (const text of state.split('\n')) {
     const set = /^process (\d+) .*pages ?(.*)$/.exec(text);
-    if (set) set[2].split(' ').filter(Boolean).forEach((page) => add(valid, Number(set[1]), Number(page)));
+    const pages = set ? set[2].split(' ').filter(Boolean) : [];
+    pages.forEach((page) => add(valid, Number(set[1]), Number(page)));
     const frame = /^frame \d+ (?!active)[a-z ]+, p(\d+)\.(\d+)/.exec(text);
     if (frame) add(memory, Number(frame[1]), Number(frame[2]));
   }
@@ -54,11 +64,13 @@ function placesIn(state) {
 // The regions of a process, the pieces of one reservation beneath each other.
 function table({ pid, regions }, where) {
   const used = regions.filter(({ state }) => state !== 0x10000);
-  const sum = (state) => used.filter((it) => it.state === state).reduce((all, { size }) => all + size, 0);
+  const add = (all, { size }) => all + size;
+  const sum = (state) => used.filter((it) => it.state === state).reduce(add, 0);
   const heads = ['Address', 'Size', 'State', 'Protection', 'Type', 'Pages'];
   const words = `Process ${pid}: ${sizeOf(sum(0x1000))} committed, ${sizeOf(sum(0x2000))} reserved`;
   const rows = used.map((region, i) => row(region, used[i - 1], pid, where));
-  const none = make('tr', {}, make('td', { colspan: 6, class: 'quiet' }, 'All its user pages are free.'));
+  const free = make('td', { colspan: 6, class: 'quiet' }, 'All its user pages are free.');
+  const none = make('tr', {}, free);
   return make(
     'table',
     { class: 'regions' },
@@ -96,6 +108,7 @@ function pageCells({ base, size, state }, pid, { valid, memory }) {
   }
   return [...Array(count).keys()].map((i) => {
     const kind = kindOf(first + i);
-    return make('i', { class: 'cell ' + kind, title: `page ${first + i}, ${hex((first + i) * 4096)}: ${kind}` });
+    const title = `page ${first + i}, ${hex((first + i) * 4096)}: ${CELLS[kind]}`;
+    return make('i', { class: 'cell ' + kind, title });
   });
 }

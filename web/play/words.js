@@ -34,7 +34,8 @@ const NAMES = {
   state: { MEM_COMMIT: 0x1000, MEM_RESERVE: 0x2000, MEM_FREE: 0x10000 },
   type: { MEM_PRIVATE: 0x20000, MEM_MAPPED: 0x40000 },
 };
-// Which of Windows' names an argument may have, by the keyword and the argument's name in the rules.
+// Which of Windows' names an argument may have, by the keyword and the argument's name in the
+// rules.
 const NAMES_OF = {
   alloc: { type: ['alloc'], prot: ['page'] },
   free: { type: ['free'] },
@@ -116,7 +117,8 @@ function meaningOf(keyword, answer) {
   if (keyword === 'charge') return `${numbers[0]} of ${numbers[1]} pages are charged`;
   if (keyword === 'machine' || keyword === 'grow') return `commit limit: ${numbers[0]} pages`;
   if (keyword === 'process') return `process ${numbers[0]}`;
-  if (/^create/.test(keyword)) return `handle ${numbers[0]}` + (numbers[1] ? ', ' + ERRORS[183] : '');
+  const again = numbers[1] ? ', ' + ERRORS[183] : '';
+  if (/^create/.test(keyword)) return `handle ${numbers[0]}${again}`;
   if (keyword === 'open') return `handle ${numbers[0]}`;
   if (keyword === 'counts') return countsOf(numbers);
   return /read/.test(keyword) && words[1] ? textIn(words[1]) : '';
@@ -126,9 +128,9 @@ function shortOf(keyword, answer) {
   const words = answer.split(' ');
   return { query: words.slice(0, 2), counts: words.slice(0, 1) }[keyword]?.join(' ') ?? answer;
 }
+const COUNTED = 'zeroed,free,standby,modified,active,in transition,free slots,requests'.split(',');
 function countsOf(numbers) {
-  const names = ['zeroed', 'free', 'standby', 'modified', 'active', 'in transition', 'free slots', 'requests'];
-  return numbers.map((count, i) => `${count} ${names[i]}`).join(', ');
+  return numbers.map((count, i) => `${count} ${COUNTED[i]}`).join(', ');
 }
 // Bytes that are all printable, as text.
 function textIn(digits) {
@@ -138,7 +140,7 @@ function textIn(digits) {
   return JSON.stringify(String.fromCharCode(...shown));
 }
 // Windows' names of an answer that is refused, alone: what mmshow has in brackets behind it.
-const refusalOf = (answer) => (/^(error|raise) /.test(answer) ? ERRORS[answer.split(' ')[1]] ?? '' : '');
+const refusalOf = (answer) => ERRORS[/^(?:error|raise) (.*)/.exec(answer)?.[1]] ?? '';
 
 // ---- colours
 // One line of a script: its comment, texts, numbers, words; the first word is a call or a keyword.
@@ -148,7 +150,8 @@ function scriptMode() {
     const isFirst = !state.isBehind;
     state.isBehind = true;
     if (isFirst && text.toLowerCase() === 'let') return 'keyword';
-    if (isFirst) return keywordOf(text) ? (data.help.forms[text.toLowerCase()] ? 'keyword' : 'call') : null;
+    if (isFirst && data.help.forms[text.toLowerCase()]) return 'keyword';
+    if (isFirst) return keywordOf(text) && 'call';
     if (ALL_NAMES.has(text)) return 'windows-name';
     return /^(paging|file|read|write)$/.test(text) ? 'keyword' : 'variable';
   }
@@ -199,11 +202,12 @@ function placeIn(line, column) {
     isJoined = /[+|]$/.test(word);
   }
   const keyword = keywordOf(first);
-  return { keyword, first, at, typed: (before.match(/[A-Za-z_][\w]*$/) ?? [''])[0], isFirst: words.length < 2 };
+  const [typed] = before.match(/[A-Za-z_][\w]*$/) ?? [''];
+  return { keyword, first, at, typed, isFirst: words.length < 2 };
 }
 
 // What may stand at the cursor, each with a text that says what it is.
-function suggestions(text, line, column, whole) {
+function suggestions(line, column, whole) {
   const place = placeIn(line, column);
   if (!place) return { list: [], from: column };
   const from = column - place.typed.length;

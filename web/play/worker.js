@@ -12,7 +12,8 @@ async function unpack(text) {
   return WebAssembly.compile(await new Response(plain).arrayBuffer());
 }
 
-// What mmnames makes of a script: the plain script, which written line each line is of, and what is wrong.
+// What mmnames makes of a script: the plain script, which written line each line is of, and what
+// is wrong.
 function translate(script) {
   const { status, out, err } = runProgram(modules.mmnames, ['lines'], bytesOf(script));
   const written = [0];
@@ -25,8 +26,9 @@ function translate(script) {
   return { status, plain: out, written, told };
 }
 
-// Faults of each line, as mmshow counts them: hard ones read a page, demand-zero ones are given a zeroed frame, soft
-// ones make a page valid whose frame was neither given nor read since the line began.
+// Faults of each line, as mmlog counts them: hard ones read a page, demand-zero ones are given a
+// zeroed frame, soft ones make a page valid whose frame was neither given nor read since the line
+// began.
 function faultsOf(log) {
   const faults = { hard: [0], soft: [0], zero: [0] };
   const text = [''];
@@ -78,7 +80,8 @@ const ASKS = {
   },
   page() {
     const files = { script: last.plain, answers: last.answers };
-    const { status, out } = runProgram(modules.mmshow, ['html', 'script', 'answers'], last.log, files);
+    const words = ['html', 'script', 'answers'];
+    const { status, out } = runProgram(modules.mmshow, words, last.log, files);
     return { page: status ? '' : textOf(out), pageStatus: status };
   },
   // The moves of one line, in words.
@@ -98,8 +101,9 @@ const ASKS = {
   files() {
     return { plain: textOf(last.plain), answers: textOf(last.answers), log: textOf(last.log) };
   },
-  // The address spaces and the charge behind a line. The program itself is asked: `query` and `charge`
-  // lines change nothing, and when it wants more of the script the answers so far were written.
+  // The address spaces and the charge behind a line. The program itself is asked: `query` and
+  // `charge` lines change nothing, and when it wants more of the script the answers so far were
+  // written.
   spaces({ line }) {
     const head = linesOf(textOf(last.plain)).slice(0, line);
     const asked = askSpaces(head.map((text) => text.split(' ')), linesOf(textOf(last.answers)));
@@ -176,7 +180,8 @@ function* askSpaces(lines, answers) {
 
 let ready = null;
 async function take({ texts, compiled }) {
-  for (const [name, text] of Object.entries(texts)) modules[name] = compiled?.[name] ?? (await unpack(text));
+  for (const [name, text] of Object.entries(texts))
+    modules[name] = compiled?.[name] ?? (await unpack(text));
   return { modules };
 }
 onmessage = async ({ data }) => {
