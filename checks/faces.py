@@ -14,6 +14,9 @@ and one that is also the name of a module. These are named where they are. So ar
 that some file of specs leads to (the lemmas of a law that an `impl` states), because the face of a
 crate's proofs leads to modules that no contract may cite.
 
+Where a list of names is wrapped, and in which order it is, makes no difference: a name of another
+length would have whole crates proved again.
+
 With --write the files are put right, and each face gets what is asked for; `rt fmt` in the changed
 crates comes after it. Unused names stay in a face, because removing one would have all crates above
 proved again.
@@ -160,6 +163,18 @@ def wrapped(head: str, names: list[str], width: int, tail: str) -> list[str]:
     return lines + [head + "{" + ", ".join(line) + "}" + tail] if line else lines
 
 
+def unwrapped(text: str) -> tuple[list[str], dict[str, list[str]]]:
+    """The lines of a text that name no items, and the items that the others name, by their place."""
+    others: list[str] = []
+    named: dict[str, list[str]] = collections.defaultdict(list)
+    for line in text.split("\n"):
+        if found := re.match(r"^(.*\buse [^{}]*)\{([^{}]*)\};?\s*$", line):
+            named[found[1]] = sorted(named[found[1]] + names_in(found[2]))
+        else:
+            others.append(line)
+    return others, named
+
+
 Taken = tuple["re.Match[str]", Library, list[tuple[str, Optional[str]]]]
 Group = tuple[int, str, str]
 
@@ -302,6 +317,8 @@ def main() -> int:
     root = check.words.top
     repository = Repository(root)
     changes = list(repository.changes())
+    if not check.words.write:
+        changes = [it for it in changes if unwrapped(it[1]) != unwrapped(read(it[0]))]
     check.compared = sum(1 for _ in repository.files())
     for path, changed in changes:
         if check.words.write:

@@ -7,8 +7,8 @@ use Rattle.mm_script.specs.{LineFault, without_return, parse}
 use Rattle.mm_script.proofs.{parse_ok, line_fits}
 use Rattle.mm_names.specs.declared.meanings.Meaning.{Meaning}
 use Rattle.mm_names.specs.declared.meanings.Meaning.TheVariants as meaning
-use Rattle.mm_names.specs.{NamesOf, tidy_of, value_of, windows_value, lowered, keyword_for, said_by, said_in, given_as, given_to, let_of, sentence, phrase}
-use Rattle.mm_names.specs.{most_line, meant_by, or_else, meant, plain_of, FormedIn, may_stand, placed_line}
+use Rattle.mm_names.specs.{NamesOf, tidy_of, value_of, windows_value, lowered, keyword_for, said_by, said_in, given_as, given_to, let_of, sentence}
+use Rattle.mm_names.specs.{phrase, most_line, meant_by, or_else, meant, plain_of, FormedIn, may_stand, placed_line}
 
 pub formed_choice : (b : Bool) (m n : Meaning) → FormedIn m → FormedIn n → FormedIn (if b then m else n)
 formed_choice true m n g h = g

@@ -5,8 +5,8 @@ use Rattle.mm_types.specs.{Text, Event}
 use Rattle.mm_script.specs.{LineFault, without_return, parse}
 use Rattle.mm_names.specs.declared.meanings.Meaning.{Meaning}
 use Rattle.mm_names.specs.declared.meanings.Meaning.TheVariants as meaning
-use Rattle.mm_names.specs.{NamesOf, no_names, with_name, tidy_of, most_line, meant_by, or_else, meant, is_machine, may_stand, placed_line, goes_on, events_of, lines_of, script_of}
-use Rattle.mm_names.specs.{IsScript, ArePlain}
+use Rattle.mm_names.specs.{NamesOf, no_names, with_name, tidy_of, most_line, meant_by, or_else, meant, is_machine, may_stand, placed_line, goes_on}
+use Rattle.mm_names.specs.{events_of, lines_of, script_of, IsScript, ArePlain}
 
 -- what may follow: no machine once a script has begun
 abbrev pub Starts : Bool → List Event → Type 0

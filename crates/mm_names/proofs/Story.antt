@@ -6,8 +6,8 @@ use Rattle.mm_types.proofs.{append_nil}
 use Rattle.mm_script.specs.{printed, IsWellFormed}
 use Rattle.mm_names.specs.declared.meanings.Meaning.{Meaning}
 use Rattle.mm_names.specs.declared.meanings.Meaning.TheVariants as meaning
-use Rattle.mm_names.specs.{NamesOf, with_name, meant, FormedIn, placed_line, goes_on, events_of, lines_from, without_mark, script_of, spelled, ScriptOf, unread}
-use Rattle.mm_names.specs.{with_event, with_meaning, with_line, with_lines, is_whole, SpellsScript, Ends}
+use Rattle.mm_names.specs.{NamesOf, with_name, meant, FormedIn, placed_line, goes_on, events_of, lines_from, without_mark, script_of, spelled}
+use Rattle.mm_names.specs.{ScriptOf, unread, with_event, with_meaning, with_line, with_lines, is_whole, SpellsScript, Ends}
 use Rattle.mm_names.proofs.Formed.{formed_meant, formed_placed}
 
 -- a script was spelled behind a text of some lines

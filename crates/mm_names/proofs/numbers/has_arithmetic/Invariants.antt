@@ -1,6 +1,6 @@
 use Rattle.std.proofs.Common.{◌≡◌, drop}
 use Rattle.std.specs.List.{list_any}
-use Rattle.mm_names.specs.Numbers.{is_arithmetic}
+use Rattle.mm_names.specs.{is_arithmetic}
 use Rattle.mm_names.proofs.numbers.has_arithmetic.Given as goal
 
 abbrev pub invariant-loop-byte : goal.invariant-loop-byte

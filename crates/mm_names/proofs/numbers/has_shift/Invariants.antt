@@ -1,6 +1,6 @@
 use Rattle.std.proofs.Common.{◌≡◌, drop}
 use Rattle.std.specs.List.{list_any}
-use Rattle.mm_names.specs.Numbers.{is_shift}
+use Rattle.mm_names.specs.{is_shift}
 use Rattle.mm_names.proofs.numbers.has_shift.Given as goal
 
 abbrev pub invariant-loop-byte : goal.invariant-loop-byte

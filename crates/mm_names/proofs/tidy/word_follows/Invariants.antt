@@ -1,5 +1,5 @@
 use Rattle.std.proofs.Common.{◌≡◌, drop}
-use Rattle.mm_names.specs.Tidy.{word_follows}
+use Rattle.mm_names.specs.{word_follows}
 use Rattle.mm_names.proofs.tidy.word_follows.Given as goal
 
 abbrev pub invariant-loop-byte : goal.invariant-loop-byte
