@@ -26,7 +26,7 @@ fn back_and_there(word: u64) -> Option<u64>
 const ENTRIES: [(u64, Entry); 7] = [
     (0, Entry::Empty),
     (1, Entry::Zero),
-    (0x12, Entry::Pager(Slot(1))),
+    (0x12, Entry::Paged(Slot(1))),
     (0x23, Entry::InFile(Block(2))),
     (4, Entry::Transition(Frame(0))),
     (0x0000000700000005, Entry::Valid(Frame(0), 7)),
