@@ -5,9 +5,8 @@ use Rattle.mm_types.specs.{Text, decimal, Block}
 use Rattle.mm_move_classes.specs.{Class}
 use Rattle.mm_move_classes.specs.declared.classes.Class.TheVariants as class
 use Rattle.mm_sentences.specs.declared.facts.Facts.{Facts}
-use Rattle.mm_sentences.specs.Sentences.{home_text}
-use Rattle.mm_transcripts.specs.Reasons.{age_words, process_words}
-use Rattle.mm_transcripts.specs.declared.reasons.Reason.{Reason}
+use Rattle.mm_sentences.specs.{home_text}
+use Rattle.mm_transcripts.specs.{age_words, process_words, Reason}
 
 -- the words of a class; behind them stands more of some
 abbrev pub words_of : Class → Text

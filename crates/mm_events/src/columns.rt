@@ -1,10 +1,8 @@
 ghost use Rattle.std.specs.Prelude.{◌≡◌, ◌*◌, ◌^◌, ◌<◌, ◌++◌, OnOk};
 ghost use Rattle.mm_csv.specs.{csv_next, csv_nexts};
 ghost use Rattle.mm_replay.specs.Standing.{life as life_of};
-ghost use Rattle.mm_events.specs.Columns.{page_of_key, page_at, page_of, line_process, process_in};
-ghost use Rattle.mm_events.specs.Columns.{process_of, page_number, option_text, address_text};
-ghost use Rattle.mm_events.specs.Columns.{page_columns, key_field, frame_number, state_field};
-ghost use Rattle.mm_events.specs.Columns.{state_in, frame_columns};
+ghost use Rattle.mm_events.specs.{page_of_key, page_at, page_of, line_process, process_in, process_of, page_number, option_text, address_text};
+ghost use Rattle.mm_events.specs.{page_columns, key_field, frame_number, state_field, state_in, frame_columns};
 
 use mm_csv::put_next;
 use mm_replay::Life;

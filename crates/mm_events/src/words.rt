@@ -1,8 +1,6 @@
 ghost use Rattle.std.specs.Prelude.{◌≡◌, ◌++◌, OnOk, codes};
-ghost use Rattle.mm_sentences.specs.Sentences.{home_text};
-ghost use Rattle.mm_events.specs.Columns.{class_text, kind_word};
-ghost use Rattle.mm_events.specs.Reasons.{words_of, block_words, replaced_words, trimmed_words};
-ghost use Rattle.mm_events.specs.Reasons.{behind_words, reason_text};
+ghost use Rattle.mm_sentences.specs.{home_text};
+ghost use Rattle.mm_events.specs.{class_text, kind_word, words_of, block_words, replaced_words, trimmed_words, behind_words, reason_text};
 
 use mm_move_classes::Class;
 use mm_sentences::{Facts, put_counted, put_words};
