@@ -293,12 +293,13 @@ def of_alloc(case: Case) -> Iterator[Explanation]:
     kind, protection = case.field(4), case.field(5)
     if case.field(2) and case.said == "error 487" and case.leaves_user_space():
         yield "here-place-outside", "error 87"
+    chosen = "ok elsewhere" if case.field(2) == 0 else told_page(case.field(2))
     if protection & 0x600 and case.said == "error 87" and protection & 0xFF in PROTECTIONS:
-        yield "here-flags-left-out", told_page(case.field(2))
+        yield "here-flags-left-out", chosen
     if kind & 0x200000 and not kind & 0x2000 and case.said == "error 87":
         yield "wine-watch-without-reserve", told_page(case.field(2))
     if kind & 0x180000 and case.said == "error 87":
-        yield "here-flags-left-out", told_page(case.field(2))
+        yield "here-flags-left-out", chosen
         yield "here-flags-left-out", "error 487"
     if case.field(2) and kind == 0x1000:
         yield from of_commit(case, protection)
@@ -556,7 +557,7 @@ def of_map(case: Case) -> Iterator[Explanation]:
     if case.said in ("error 87", "error 487") and address >= HIGHEST:
         yield "wine-map-above", "ok elsewhere"
     if case.said == "error 87" and access in (0, 3, 5, 7):
-        yield "here-map-access", f"ok 0x{address:08X}"
+        yield "here-map-access", f"ok 0x{address:08X}" if address else "ok elsewhere"
 
 
 def of_unmap(case: Case) -> Iterator[Explanation]:
@@ -568,14 +569,17 @@ def of_handle(case: Case) -> Iterator[Explanation]:
     """`create`, `createfile`, `close`."""
     if case.verb == "close" and case.said == "error 6" and case.field(2) % 4:
         yield "here-handle-bits", "ok"
-    if case.verb == "createfile" and case.said == "error 87":
+    if case.verb == "createfile" and case.said == "error 2":
+        yield "here-file-names", "ok handle *"
+    if case.verb not in ("create", "createfile") or case.said != "error 87":
+        return
+    flags = case.field(3)
+    if case.verb == "createfile":
         yield "here-file-missing-first", "error 2"
-    if (
-        case.verb in ("create", "createfile")
-        and case.said == "error 87"
-        and case.field(3) & 0x1000000
-    ):
+    if flags & 0x1000000:
         yield "here-flags-left-out", "error 193"
+    if flags & 0xFF in (0x20, 0x40, 0x80) or flags & 0x10000000:
+        yield "here-flags-left-out", "ok handle *"
 
 
 RULES: dict[str, Callable[[Case], Iterator[Explanation]]] = {
