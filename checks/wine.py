@@ -80,15 +80,13 @@ class Wine:
 
     def __init__(self, room: Path) -> None:
         self.room, self.pack = room, room / "pack"
-        self.environment = {
-            name: value
-            for name, value in os.environ.items()
-            if name not in ("DISPLAY", "WAYLAND_DISPLAY")
-        }
-        self.environment |= {
-            "WINEPREFIX": str(room / "prefix"),
-            "WINEDEBUG": "-all",
-            "WINEDLLOVERRIDES": "mscoree,mshtml=",
+        hidden = ("DISPLAY", "WAYLAND_DISPLAY")
+        base = {name: value for name, value in os.environ.items() if name not in hidden}
+        base |= {"WINEDEBUG": "-all", "WINEDLLOVERRIDES": "mscoree,mshtml="}
+        # Each program has a prefix of its own kind, so that the 32-bit one is on a 32-bit system.
+        self.environments = {
+            bits: base | {"WINEPREFIX": str(room / f"prefix{bits}"), "WINEARCH": f"win{bits}"}
+            for bits in (64, 32)
         }
         programs = [
             "real64.exe",
@@ -100,14 +98,17 @@ class Wine:
             raise RuntimeError(ran.stdout.strip())
 
     def start(self) -> None:
-        """The first start makes the prefix, which takes some seconds."""
-        quietly([str(found(PLACES_64)), "wineboot", "-i"], self.environment, 300)
+        """The first start makes the prefixes, which takes some seconds."""
+        for bits, environment in self.environments.items():
+            command = self.command(bits)
+            if command:
+                quietly([command[0], "wineboot", "-i"], environment, 300)
 
-    def run(self, command: list[str]) -> subprocess.CompletedProcess[bytes]:
+    def run(self, command: list[str], bits: int) -> subprocess.CompletedProcess[bytes]:
         return subprocess.run(
             command,
             cwd=self.pack,
-            env=self.environment,
+            env=self.environments[bits],
             stdin=subprocess.DEVNULL,
             stdout=subprocess.PIPE,
             stderr=subprocess.DEVNULL,
@@ -129,16 +130,17 @@ class Wine:
         command = self.command(bits)
         if not command:
             return None
-        ran = self.run([*command, "rows.txt", "result.txt"])
+        ran = self.run([*command, "rows.txt", "result.txt"], bits)
         if ran.returncode not in (0, 1):
             raise RuntimeError(f"real{bits}.exe ended with status {ran.returncode}")
         return (self.pack / "result.txt").read_text("ascii")
 
     def end(self) -> None:
         server = found(["wineserver", "/usr/lib/wine/wineserver64", "/usr/lib/wine/wineserver"])
-        if server:
-            quietly([server, "-k"], self.environment, 60)
-            quietly([server, "-w"], self.environment, 60)
+        for bits, environment in self.environments.items():
+            if server and (self.room / f"prefix{bits}").exists():
+                quietly([server, "-k"], environment, 60)
+                quietly([server, "-w"], environment, 60)
 
 
 # ---- rows ----
@@ -204,7 +206,7 @@ def differences_of_scripts(
 ) -> tuple[Known, int]:
     command = wine.command(64) or []
     found_ones, compared = held.hold(
-        scripts, simulate, held.system(command, wine.pack, wine.environment)
+        scripts, simulate, held.system(command, wine.pack, wine.environments[64])
     )
     return {
         f"drawn {one.script}:{one.at}": [one.line, one.said, one.real, one.reason or "?"]
