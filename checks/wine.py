@@ -351,38 +351,44 @@ def version(result: str) -> str:
     return result.split(",")[0]
 
 
+def lists(result: str) -> tuple[Path, Known, bool]:
+    """The list of this version of Wine, what is in it, and whether it is there. Where it is not, the
+    reasons of the newest other one are taken.
+    """
+    path = RESULTS / f"{version(result)}-known.txt"
+    others = sorted(RESULTS.glob("wine-*-known.txt"))
+    return path, read_known(path if path.exists() or not others else others[-1]), path.exists()
+
+
 def check_all(wine: Wine, simulate: held.Simulate, write: bool) -> tuple[int, list[str]]:
     """Rows and drawn scripts against what is stored: how many lines were compared, and what
-    differs.
+    differs. Of a Wine of which nothing is stored only the reasons are asked for.
     """
+    results = {bits: result for bits in (64, 32) if (result := wine.result(bits)) is not None}
+    path, known, is_listed = lists(results[64])
     wrong: list[str] = []
     told: Known = {}
-    compared, ran = 0, ["drawn"]
-    for bits in (64, 32):
-        result = wine.result(bits)
-        if result is None:
-            continue
-        ran.append(str(bits))
-        stored, known = RESULTS / f"{version(result)}-{bits}.txt", read_known(
-            RESULTS / f"{version(result)}-known.txt"
-        )
+    for bits, result in results.items():
+        stored = RESULTS / f"{version(result)}-{bits}.txt"
         told |= differences_of_rows(wine, bits, result, simulate, known)
-        compared += int(result.partition("compared ")[2].split()[0])
-        path = RESULTS / f"{version(result)}-known.txt"
         if write:
             stored.write_text(result, "ascii")
-        wrong += compare_text(stored.name, result, stored)
+        if is_listed or write:
+            wrong += compare_text(stored.name, result, stored)
     of_scripts, lines = differences_of_scripts(drawn(1, SCRIPTS, LINES), wine, simulate)
     told |= of_scripts
-    known = read_known(path)
+    ran = {"drawn", *(str(bits) for bits in results)}
     if write:
         kept = {key: parts for key, parts in known.items() if key.split()[0] not in ran}
-        write_known(path, told | kept)
+        write_known(path, told | (kept if is_listed else {}))
         known = read_known(path)
-    wrong += compare_known(
-        told, {key: parts for key, parts in known.items() if key.split()[0] in ran}
-    )
-    return compared + lines, wrong + compare_document()
+    if is_listed or write:
+        asked = {key: parts for key, parts in known.items() if key.split()[0] in ran}
+    else:
+        print(f"wine: nothing is stored of {version(results[64])}: only reasons are compared")
+        asked = told
+    compared = sum(int(result.partition("compared ")[2].split()[0]) for result in results.values())
+    return compared + lines, wrong + compare_known(told, asked) + compare_document()
 
 
 def check_scripts(

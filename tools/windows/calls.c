@@ -70,7 +70,13 @@ static void tell_address(struct call *call, const void *real)
 static void alloc_anywhere(struct call *call, SIZE_T size, DWORD type, DWORD protection)
 {
     char *there;
-    void *got = VirtualAlloc(NULL, size, type, protection);
+    SIZE_T length;
+    void *got;
+    if (call->chosen && !place_range(call->choice, size, &there, &length)) {
+        skipped(call, OUTSIDE);
+        return;
+    }
+    got = VirtualAlloc(NULL, size, type, protection);
     if (!got) {
         refused(call);
         return;
@@ -81,10 +87,6 @@ static void alloc_anywhere(struct call *call, SIZE_T size, DWORD type, DWORD pro
             skipped(call, "this process has more room");
         else
             strcpy(call->answer, "ok elsewhere");
-        return;
-    }
-    if (!place(call->choice, &there)) {
-        skipped(call, OUTSIDE);
         return;
     }
     got = VirtualAlloc(there, size, type | MEM_RESERVE, protection);
@@ -302,6 +304,8 @@ static void make_map(struct call *call)
         got = MapViewOfFileEx(section, access, 0, offset, length, there);
     if (!got) {
         refused(call);
+        if (call->chosen && GetLastError() == ERROR_NOT_ENOUGH_MEMORY)
+            skipped(call, "this process has less room");
         return;
     }
     tell_address(call, got);

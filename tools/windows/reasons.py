@@ -387,7 +387,7 @@ def of_protect(case: Case) -> Iterator[Explanation]:
         if case.view and case.view.section.by_page:
             if any(case.is_unrecorded(page) for page in case.pages):
                 yield "wine-section-tail", "error 487"
-            if len(case.pages) > 1:
+            if len(case.pages) > 1 and committed:
                 yield "wine-section-runs", "error 487"
 
 
