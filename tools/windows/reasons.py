@@ -384,11 +384,11 @@ def of_protect(case: Case) -> Iterator[Explanation]:
             yield "here-protect-readwrite", "error 87"
         if told_by_wine(first) != first.protection:
             yield "wine-copied-page", f"ok 0x{told_by_wine(first):08X}"
-        if case.view and case.view.section.by_page:
-            if any(case.is_unrecorded(page) for page in case.pages):
-                yield "wine-section-tail", "error 487"
-            if len(case.pages) > 1 and committed:
-                yield "wine-section-runs", "error 487"
+    if committed and case.said != "error 487" and case.view and case.view.section.by_page:
+        if any(case.is_unrecorded(page) for page in case.pages):
+            yield "wine-section-tail", "error 487"
+        if len(case.pages) > 1:
+            yield "wine-section-runs", "error 487"
 
 
 def told_by_wine(page: Page) -> int:
