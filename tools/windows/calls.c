@@ -1,5 +1,6 @@
-/* A child: it makes the calls of one process of a script, and answers in the simulator's spelling.
-   A request is "LINE TAB EXPECTED": where the system would choose an address or the number of a handle, the expected answer says which the script has. */
+/* A child: it makes the calls of one process of a script, and answers in the simulator's spelling. A request is
+   "LINE TAB EXPECTED": where the system would choose an address or the number of a handle, the expected answer
+   says which the script has. */
 #include "real.h"
 
 #define HANDLES 4096
@@ -175,7 +176,8 @@ static void make_query(struct call *call)
 
 /* ---- sections and handles ---- */
 
-/* What the script calls a handle.  One that it never had, or closed, is one that no process has, since Windows may give a value again. */
+/* What the script calls a handle.  One that it never had, or closed, is one that no process has, since Windows may
+   give a value again. */
 static HANDLE handle_of(const char *word)
 {
     number value = number_of(word), at = value / 4;
@@ -202,7 +204,8 @@ static const char *name_of(const char *word)
     return name;
 }
 
-/* Keeps a handle under the number that the script has for it.  Where that number was closed before, the value must be the one it was. */
+/* Keeps a handle under the number that the script has for it.  Where that number was closed before, the value must
+   be the one it was. */
 static void tell_handle(struct call *call, HANDLE handle, const char *behind)
 {
     number at = call->choice / 4;
@@ -373,7 +376,8 @@ static char **thread_block(int of_64, int of_32)
     return (char **)((char *)NtCurrentTeb() + (sizeof(void *) == 8 ? of_64 : of_32));
 }
 
-/* Makes an access as the thread would whose stack that is: the system looks at the limits that the thread's block tells. */
+/* Makes an access as the thread would whose stack that is: the system looks at the limits that the thread's block
+   tells. */
 static DWORD access_by(struct stack *stack, char kind, char *real, unsigned char *bytes, int count)
 {
     char **base = thread_block(8, 4), **limit = thread_block(0x10, 8), **lowest = thread_block(0x1478, 0xE0C);
