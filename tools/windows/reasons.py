@@ -533,6 +533,8 @@ def of_map(case: Case) -> Iterator[Explanation]:
     access, offset, address = case.field(3), case.field(4), case.field(6)
     handle = case.history.handles.get((case.pid, case.field(2) & ~3))
     writes = access in WRITE_ACCESSES
+    if handle and case.field(2) % 4 and case.said == "error 6":
+        yield "here-handle-bits", f"ok 0x{address:08X}" if address else "ok elsewhere"
     if (
         handle
         and writes
