@@ -42,7 +42,9 @@ def simulator(program: str) -> Simulate:
             stderr=subprocess.DEVNULL,
             timeout=120,
         )
-        return ran.stdout.decode("latin-1").splitlines()
+        answers = ran.stdout.decode("latin-1").splitlines()
+        faults = ("bad line ", "too long line ")  # the last text, where a line has no form
+        return [answer for answer in answers if not answer.startswith(faults)]
 
     return simulate
 
