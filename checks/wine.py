@@ -83,6 +83,7 @@ class Wine:
         hidden = ("DISPLAY", "WAYLAND_DISPLAY")
         base = {name: value for name, value in os.environ.items() if name not in hidden}
         base |= {"WINEDEBUG": "-all", "WINEDLLOVERRIDES": "mscoree,mshtml="}
+        base["TMPDIR"] = str(room)  # where the server has its socket
         # Each program has a prefix of its own kind, so that the 32-bit one is on a 32-bit system.
         self.environments = {
             bits: base | {"WINEPREFIX": str(room / f"prefix{bits}"), "WINEARCH": f"win{bits}"}
