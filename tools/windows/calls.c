@@ -1,5 +1,6 @@
-/* A child: it makes the calls of one process of a script, and answers in the simulator's spelling.
-   A request is "LINE TAB EXPECTED": where the system would choose an address or the number of a handle, the expected answer says which the script has. */
+/* A child: it makes the calls of one process of a script, and answers in the simulator's spelling. A request is
+   "LINE TAB EXPECTED": where the system would choose an address or the number of a handle, the expected answer
+   says which the script has. */
 #include "real.h"
 
 #define HANDLES 4096
@@ -70,7 +71,13 @@ static void tell_address(struct call *call, const void *real)
 static void alloc_anywhere(struct call *call, SIZE_T size, DWORD type, DWORD protection)
 {
     char *there;
-    void *got = VirtualAlloc(NULL, size, type, protection);
+    SIZE_T length;
+    void *got;
+    if (call->chosen && !place_range(call->choice, size, &there, &length)) {
+        skipped(call, OUTSIDE);
+        return;
+    }
+    got = VirtualAlloc(NULL, size, type, protection);
     if (!got) {
         refused(call);
         return;
@@ -81,10 +88,6 @@ static void alloc_anywhere(struct call *call, SIZE_T size, DWORD type, DWORD pro
             skipped(call, "this process has more room");
         else
             strcpy(call->answer, "ok elsewhere");
-        return;
-    }
-    if (!place(call->choice, &there)) {
-        skipped(call, OUTSIDE);
         return;
     }
     got = VirtualAlloc(there, size, type | MEM_RESERVE, protection);
@@ -173,7 +176,8 @@ static void make_query(struct call *call)
 
 /* ---- sections and handles ---- */
 
-/* What the script calls a handle.  One that it never had, or closed, is one that no process has, since Windows may give a value again. */
+/* What the script calls a handle.  One that it never had, or closed, is one that no process has, since Windows may
+   give a value again. */
 static HANDLE handle_of(const char *word)
 {
     number value = number_of(word), at = value / 4;
@@ -200,7 +204,8 @@ static const char *name_of(const char *word)
     return name;
 }
 
-/* Keeps a handle under the number that the script has for it.  Where that number was closed before, the value must be the one it was. */
+/* Keeps a handle under the number that the script has for it.  Where that number was closed before, the value must
+   be the one it was. */
 static void tell_handle(struct call *call, HANDLE handle, const char *behind)
 {
     number at = call->choice / 4;
@@ -275,6 +280,16 @@ static void make_close(struct call *call)
 
 /* ---- views ---- */
 
+/* Whether a view begins in the window and ends behind it: a 64-bit process has memory there. */
+static int leaves_window(void *view)
+{
+    MEMORY_BASIC_INFORMATION run;
+    number address;
+    if (!script_address(view, &address) || VirtualQuery(view, &run, sizeof run) != sizeof run)
+        return 0;
+    return (number)(ULONG_PTR)view + run.RegionSize > window_last();
+}
+
 static void make_map(struct call *call)
 {
     HANDLE section = handle_of(call->word[2]);
@@ -302,12 +317,14 @@ static void make_map(struct call *call)
         got = MapViewOfFileEx(section, access, 0, offset, length, there);
     if (!got) {
         refused(call);
+        if (call->chosen && GetLastError() == ERROR_NOT_ENOUGH_MEMORY)
+            skipped(call, "this process has less room");
         return;
     }
     tell_address(call, got);
-    if (!strcmp(call->answer, "ok elsewhere")) {
+    if (leaves_window(got) || !strcmp(call->answer, "ok elsewhere")) {
         UnmapViewOfFile(got);
-        if (!strcmp(call->expected, "error 487") || !strcmp(call->expected, "error 8"))
+        if (address < HIGHEST && (!strcmp(call->expected, "error 487") || !strcmp(call->expected, "error 8")))
             skipped(call, "this process has more room");
     }
 }
@@ -369,7 +386,8 @@ static char **thread_block(int of_64, int of_32)
     return (char **)((char *)NtCurrentTeb() + (sizeof(void *) == 8 ? of_64 : of_32));
 }
 
-/* Makes an access as the thread would whose stack that is: the system looks at the limits that the thread's block tells. */
+/* Makes an access as the thread would whose stack that is: the system looks at the limits that the thread's block
+   tells. */
 static DWORD access_by(struct stack *stack, char kind, char *real, unsigned char *bytes, int count)
 {
     char **base = thread_block(8, 4), **limit = thread_block(0x10, 8), **lowest = thread_block(0x1478, 0xE0C);
@@ -492,6 +510,10 @@ static void make_probe(struct call *call)
     number guard;
     if (!place(number_of(call->word[2]), &real)) {
         skipped(call, OUTSIDE);
+        return;
+    }
+    if (!strcmp(call->expected, "raise 0xC00000FD") && number_of(call->word[2]) / PAGE != stack->base / PAGE + 1) {
+        skipped(call, "! the commit limit is the system's own"); /* the overflow is not for want of addresses */
         return;
     }
     status = access_by(stack, 'r', real, byte, 1);

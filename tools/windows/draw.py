@@ -1,7 +1,9 @@
-"""Draws scripts of Windows' calls near the edges of the rules: every protection, every kind of view, guards, watches, stacks, several processes.
+"""Draws scripts of Windows' calls near the edges of the rules: every protection, every kind of
+view, guards, watches, stacks, several processes.
 
-Nothing is drawn that no Windows can be compared on: no paging, no commit limit, no device that fails. The numbers come from a generator of its own, so that a
-seed means the same script with every Python.
+Nothing is drawn that no Windows can be compared on: no paging, no commit limit, no device that
+fails. The numbers come from a generator of its own, so that a seed means the same script with
+every Python.
 """
 
 from __future__ import annotations
@@ -63,7 +65,13 @@ class Drawing:
 
     def __init__(self, seed: int) -> None:
         self.numbers = Numbers(seed)
-        self.lines = ["machine 4096 4096 4 256", "process 0 4096", "process 0 4096", "file a 4 17", "file b 20 33"]
+        self.lines = [
+            "machine 4096 4096 4 256",
+            "process 0 4096",
+            "process 0 4096",
+            "file a 4 17",
+            "file b 20 33",
+        ]
         self.regions: list[list[tuple[int, int]]] = [[], []]  # base and size
         self.views: list[list[tuple[int, int]]] = [[], []]
         self.handles = [0, 0]
@@ -76,23 +84,39 @@ class Drawing:
             self.make_something(self.at + 1)
 
     def make_stacks(self) -> None:
-        """A stack for each process: thread 0 in the first, thread 1 in the second, both at the lowest address."""
+        """A stack for each process: thread 0 in the first, thread 1 in the second, both at the
+        lowest address.
+        """
         for at in range(2):
-            self.lines.append(f"stack {at} {at + 1} 0x20000 0x{self.numbers.of([PAGE, 8 * PAGE]):X}")
+            self.lines.append(
+                f"stack {at} {at + 1} 0x20000 0x{self.numbers.of([PAGE, 8 * PAGE]):X}"
+            )
             self.regions[at].append((0x10000, 0x20000))
             self.next_place[at] = 0x40000
         self.weights |= WEIGHTS_OF_STACKS
 
     def make_something(self, pid: int) -> None:
         """Memory, sections and views to begin with, so that most lines meet something."""
-        watched = self.numbers.of([0, 0x200000])
-        self.lines.append(f"alloc {pid} 0x{self.new_place(5 * PAGE):X} 0x5000 0x{0x3000 | watched:X} 0x{self.protection():X}")
+        place, protection = self.new_place(5 * PAGE), self.protection()
+        kind = 0x3000 | self.numbers.of([0, 0x200000])
+        self.lines.append(f"alloc {pid} 0x{place:X} 0x5000 0x{kind:X} 0x{protection:X}")
         self.lines.append(f"alloc {pid} 0x{self.new_place(16 * PAGE):X} 0x10000 0x2000 0x04")
-        self.lines.append(f"create {pid} 0x6000 0x{self.numbers.of([0x04, 0x4000004]):X} {self.numbers.of(['-', 'S'])}")
-        self.lines.append(f"createfile {pid} {self.numbers.of(['a', 'b'])} 0x{self.numbers.of([0x02, 0x04]):X} -")
+        self.lines.append(
+            f"create {pid} 0x6000 0x{self.numbers.of([0x04, 0x4000004]):X}"
+            f" {self.numbers.of(['-', 'S'])}"
+        )
+        self.lines.append(
+            f"createfile {pid} {self.numbers.of(['a', 'b'])} 0x{self.numbers.of([0x02, 0x04]):X} -"
+        )
         self.handles[self.at] = 2
-        for handle, access in ((4, self.numbers.of([2, 4])), (4, 1), (8, self.numbers.of([1, 2, 4]))):
-            self.lines.append(f"map {pid} {handle} {access} 0 0 0x{self.new_place(4 * PAGE, self.views):X}")
+        for handle, access in (
+            (4, self.numbers.of([2, 4])),
+            (4, 1),
+            (8, self.numbers.of([1, 2, 4])),
+        ):
+            self.lines.append(
+                f"map {pid} {handle} {access} 0 0 0x{self.new_place(4 * PAGE, self.views):X}"
+            )
 
     def page_of_stack(self) -> int:
         return 0x30000 - PAGE * (1 + self.numbers.below(12))
@@ -111,7 +135,11 @@ class Drawing:
         if self.numbers.chance(4):
             return 0x10000 * (1 + self.numbers.below(40))
         base, size = self.place(regions)
-        return base + PAGE * self.numbers.below(max(1, size // PAGE)) + self.numbers.of([0, 0, 0, 0, 0, 1, 0xFFF, 0x800])
+        return (
+            base
+            + PAGE * self.numbers.below(max(1, size // PAGE))
+            + self.numbers.of([0, 0, 0, 0, 0, 1, 0xFFF, 0x800])
+        )
 
     def page(self, regions: int = 50) -> int:
         return self.address(regions) & ~0xFFF
@@ -129,15 +157,19 @@ class Drawing:
         """One line."""
         self.at = self.numbers.below(2)
         kinds = [kind for kind, weight in self.weights.items() for _ in range(weight)]
-        return getattr(self, "line_" + self.numbers.of(kinds))(self.at + 1)
+        line: str = getattr(self, "line_" + self.numbers.of(kinds))(self.at + 1)
+        return line
 
     def line_reserve(self, pid: int) -> str:
         size = self.numbers.of([PAGE, 3 * PAGE, 5 * PAGE, 16 * PAGE, 16 * PAGE + 1])
         kind = self.numbers.of([0x2000, 0x2000, 0x3000, 0x3000, 0x203000, 0x202000])
-        return f"alloc {pid} 0x{self.new_place(size):X} 0x{size:X} 0x{kind:X} 0x{self.protection():X}"
+        return (
+            f"alloc {pid} 0x{self.new_place(size):X} 0x{size:X} 0x{kind:X} 0x{self.protection():X}"
+        )
 
     def line_commit(self, pid: int) -> str:
-        return f"alloc {pid} 0x{self.address():X} 0x{self.numbers.of(SIZES):X} 0x1000 0x{self.protection():X}"
+        address, size = self.address(), self.numbers.of(SIZES)
+        return f"alloc {pid} 0x{address:X} 0x{size:X} 0x1000 0x{self.protection():X}"
 
     def line_decommit(self, pid: int) -> str:
         size = self.numbers.of(SIZES) if self.numbers.chance(80) else 0
@@ -147,21 +179,27 @@ class Drawing:
         return f"free {pid} 0x{self.place(90)[0]:X} 0 0x8000"
 
     def line_protect(self, pid: int) -> str:
-        return f"protect {pid} 0x{self.address():X} 0x{self.numbers.of(SIZES):X} 0x{self.protection():X}"
+        address, size = self.address(), self.numbers.of(SIZES)
+        return f"protect {pid} 0x{address:X} 0x{size:X} 0x{self.protection():X}"
 
     def line_query(self, pid: int) -> str:
         return f"query {pid} 0x{self.address():X}"
 
     def line_create(self, pid: int) -> str:
         self.handles[self.at] += 1
-        flags = self.numbers.of([0x02, 0x04, 0x04, 0x04, 0x08]) | self.numbers.of([0, 0x8000000, 0x4000000, 0x4000000])
-        size, name = self.numbers.of([PAGE, 3 * PAGE + 1, 17 * PAGE, 32 * PAGE]), self.numbers.of(["-", "S", "T"])
+        flags = self.numbers.of([0x02, 0x04, 0x04, 0x04, 0x08]) | self.numbers.of(
+            [0, 0x8000000, 0x4000000, 0x4000000]
+        )
+        size, name = self.numbers.of([PAGE, 3 * PAGE + 1, 17 * PAGE, 32 * PAGE]), self.numbers.of(
+            ["-", "S", "T"]
+        )
         return f"create {pid} 0x{size:X} 0x{flags:X} {name}"
 
     def line_createfile(self, pid: int) -> str:
         self.handles[self.at] += 1
         flags = self.numbers.of([0x02, 0x04, 0x04, 0x08])
-        return f"createfile {pid} {self.numbers.of(['a', 'b'])} 0x{flags:X} {self.numbers.of(['-', 'S', 'T'])}"
+        file, name = self.numbers.of(["a", "b"]), self.numbers.of(["-", "S", "T"])
+        return f"createfile {pid} {file} 0x{flags:X} {name}"
 
     def line_open(self, pid: int) -> str:
         self.handles[self.at] += 1
@@ -174,7 +212,8 @@ class Drawing:
         access = self.numbers.of([1, 1, 2, 4, 6, 0xF001F])
         offset = self.numbers.of([0, 0, 0, 0, 0x10000, 0x1000])
         length = self.numbers.of([0, 0, PAGE, PAGE + 1, 0x10000, 0x12000])
-        return f"map {pid} {self.handle()} 0x{access:X} 0x{offset:X} 0x{length:X} 0x{self.new_place(3 * PAGE, self.views):X}"
+        place = self.new_place(3 * PAGE, self.views)
+        return f"map {pid} {self.handle()} 0x{access:X} 0x{offset:X} 0x{length:X} 0x{place:X}"
 
     def line_unmap(self, pid: int) -> str:
         return f"unmap {pid} 0x{self.place(10)[0]:X}"
@@ -183,7 +222,9 @@ class Drawing:
         return f"flush {pid} 0x{self.address(15):X} 0x{self.numbers.of([0, 1, PAGE, 2 * PAGE]):X}"
 
     def line_read(self, pid: int) -> str:
-        return f"read {pid} 0x{self.page() + self.numbers.of([0, 0xFF0]):X} {self.numbers.of([1, 4])}"
+        return (
+            f"read {pid} 0x{self.page() + self.numbers.of([0, 0xFF0]):X} {self.numbers.of([1, 4])}"
+        )
 
     def line_write(self, pid: int) -> str:
         data = "".join(f"{self.numbers.below(256):02X}" for _ in range(self.numbers.of([1, 2])))
@@ -193,7 +234,8 @@ class Drawing:
         return f"exec {pid} 0x{self.page(80):X}"
 
     def line_watch(self, pid: int) -> str:
-        return f"watch {pid} {self.numbers.below(2)} 0x{self.address(95):X} 0x{self.numbers.of([1, PAGE, 3 * PAGE, 5 * PAGE]):X} 16"
+        flag, size = self.numbers.below(2), self.numbers.of([1, PAGE, 3 * PAGE, 5 * PAGE])
+        return f"watch {pid} {flag} 0x{self.address(95):X} 0x{size:X} 16"
 
     def line_resetwatch(self, pid: int) -> str:
         return f"resetwatch {pid} 0x{self.address(95):X} 0x{self.numbers.of(SIZES):X}"
@@ -205,7 +247,8 @@ class Drawing:
         return f"begin {self.numbers.of([pid - 1, 5])} {pid} read 0x{self.page_of_stack():X} 1"
 
     def line_guard(self, pid: int) -> str:
-        return f"protect {pid} 0x{self.page_of_stack():X} 0x1000 0x{self.numbers.of([0x04, 0x104, 0x102]):X}"
+        protection = self.numbers.of([0x04, 0x104, 0x102])
+        return f"protect {pid} 0x{self.page_of_stack():X} 0x1000 0x{protection:X}"
 
 
 def script(seed: int, lines: int) -> list[str]:

@@ -1,6 +1,8 @@
-"""Holds scripts against a system: the simulator answers them, the program of this folder makes their calls, and each answer that differs gets its reason.
+"""Holds scripts against a system: the simulator answers them, the program of this folder makes
+their calls, and each answer that differs gets its reason.
 
-After a difference that changes what is there, later lines would mean nothing: that line is taken out of its script, and the script is run again.
+After a difference that changes what is there, later lines would mean nothing: that line is taken
+out of its script, and the script is run again.
 """
 
 from __future__ import annotations
@@ -17,7 +19,9 @@ ROUNDS = 60
 
 
 class Difference(NamedTuple):
-    """A line of a script (counted from 1, as the script was drawn) that the system answers otherwise, or that was left out; `reason` is "" where none is known."""
+    """A line of a script (counted from 1, as the script was drawn) that the system answers
+    otherwise, or that was left out; `reason` is "" where none is known.
+    """
 
     script: str
     at: int
@@ -38,13 +42,17 @@ def simulator(program: str) -> Simulate:
             stderr=subprocess.DEVNULL,
             timeout=120,
         )
-        return ran.stdout.decode("latin-1").splitlines()
+        answers = ran.stdout.decode("latin-1").splitlines()
+        faults = ("bad line ", "too long line ")  # the last text, where a line has no form
+        return [answer for answer in answers if not answer.startswith(faults)]
 
     return simulate
 
 
 def system(command: list[str], room: Path, environment: dict[str, str]) -> Answers:
-    """The system as a function from scripts, each with the simulator's answers, to its own answers."""
+    """The system as a function from scripts, each with the simulator's answers, to its own
+    answers.
+    """
 
     def answers(scripts: list[tuple[str, list[str], list[str]]]) -> list[list[str]]:
         path = room / "scripts.txt"
@@ -68,7 +76,10 @@ def system(command: list[str], room: Path, environment: dict[str, str]) -> Answe
             else:
                 found[-1].append(line)
         if len(found) != len(scripts) or ran.returncode:
-            raise RuntimeError(f"the program answered {len(found)} of {len(scripts)} scripts, and ended with status {ran.returncode}")
+            raise RuntimeError(
+                f"the program answered {len(found)} of {len(scripts)} scripts,"
+                f" and ended with status {ran.returncode}"
+            )
         return found
 
     return answers
@@ -87,11 +98,15 @@ class Script:
         del self.lines[at], self.numbers[at]
 
     def cases(self) -> Iterator[tuple[int, Case]]:
-        """Each line's case in turn. The history is the one before it, as long as the next one was not asked for."""
+        """Each line's case in turn. The history is the one before it, as long as the next one was
+        not asked for.
+        """
         self.answers = self.simulate(self.lines)
         del self.lines[len(self.answers) :], self.numbers[len(self.answers) :]
         asked = self.asked()
-        told = self.simulate([line for at, line in enumerate(self.lines) for line in [*asked[at], line]])
+        told = self.simulate(
+            [line for at, line in enumerate(self.lines) for line in [*asked[at], line]]
+        )
         history, next_told = History(), 0
         for at, line in enumerate(self.lines):
             answers = told[next_told : next_told + len(asked[at])]
@@ -111,24 +126,37 @@ class Script:
         return asked
 
     def leave_out(self) -> Iterator[Difference]:
-        """Takes out the lines after which the system is known to go on otherwise, though it answers the same."""
+        """Takes out the lines after which the system is known to go on otherwise, though it
+        answers the same.
+        """
         again = True
         while again:
             again = False
             for at, case in self.cases():
                 reason = left_out(case)
                 if reason:
-                    yield Difference(self.name, self.numbers[at], self.lines[at], case.said, "left out", reason)
+                    yield Difference(
+                        self.name, self.numbers[at], self.lines[at], case.said, "left out", reason
+                    )
                     self.take_out(at)
                     again = True
                     break
 
     def differences(self, real: list[str]) -> Iterator[Difference]:
-        """The lines that differ, up to the first that changes what is there: that one is taken out."""
+        """The lines that differ, up to the first that changes what is there: that one is taken
+        out.
+        """
         for at, case in self.cases():
             if real[at].startswith("skip") or real[at] == case.said:
                 continue
-            yield Difference(self.name, self.numbers[at], self.lines[at], case.said, real[at], explain(case, real[at]) or "")
+            yield Difference(
+                self.name,
+                self.numbers[at],
+                self.lines[at],
+                case.said,
+                real[at],
+                explain(case, real[at]) or "",
+            )
             if changes(case.words, case.said, real[at]):
                 self.take_out(at)
                 return
@@ -144,8 +172,12 @@ def changes(words: list[str], said: str, real: str) -> bool:
     return not (said.startswith("error") and real.startswith("error"))
 
 
-def hold(scripts: list[tuple[str, list[str]]], simulate: Simulate, answers: Answers) -> tuple[list[Difference], int]:
-    """The differences of all scripts, by script and line, and how many lines were compared in the end."""
+def hold(
+    scripts: list[tuple[str, list[str]]], simulate: Simulate, answers: Answers
+) -> tuple[list[Difference], int]:
+    """The differences of all scripts, by script and line, and how many lines were compared in the
+    end.
+    """
     work = [Script(name, lines, simulate) for name, lines in scripts]
     found: dict[tuple[str, int], Difference] = {}
     compared = 0
@@ -153,7 +185,9 @@ def hold(scripts: list[tuple[str, list[str]]], simulate: Simulate, answers: Answ
         for script in work:
             for difference in script.leave_out():
                 found.setdefault((script.name, difference.at), difference)
-        for script, real in zip(work, answers([(script.name, script.lines, script.answers) for script in work])):
+        for script, real in zip(
+            work, answers([(script.name, script.lines, script.answers) for script in work])
+        ):
             for difference in script.differences(real):
                 found.setdefault((script.name, difference.at), difference)
             if script.done:

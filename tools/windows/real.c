@@ -1,14 +1,18 @@
-/* Makes the calls of scripts on the system that it runs on, and says where it answers otherwise than the rows of tests/windows claim.
+/* Makes the calls of scripts on the system that it runs on, and says where it answers otherwise than the
+   rows of tests/windows claim.
 
-   real ROWS [RESULT]       a table, the lines that differ, and a file of results (result-SYSTEM-BITS.txt unless RESULT names another)
+   real ROWS [RESULT]       a table, the lines that differ, and a file of results (result-SYSTEM-BITS.txt
+                            unless RESULT names another)
    real --answers SCRIPTS   "# NAME" and then an answer for each line, or "skip" and why no Windows can be asked
-   --stacks before these    compares stacks in the 64-bit program too, for a system whose 64-bit stacks grow by one page (Wine)
+   --stacks before these    compares stacks in the 64-bit program too, for a system whose 64-bit stacks grow by
+                            one page (Wine)
 
-   ROWS and SCRIPTS are text.  A line "# FILE NAME" begins a script; a line of it is "SCRIPT LINE TAB SIMULATOR'S ANSWER", and where the row says that
-   Windows answers otherwise, another TAB and that answer.  Where the system would choose an address or a number of a handle, the answer says what the
-   script goes on with.
+   ROWS and SCRIPTS are text.  A line "# FILE NAME" begins a script; a line of it is "SCRIPT LINE TAB SIMULATOR'S
+   ANSWER", and where the row says that Windows answers otherwise, another TAB and that answer.  Where the system
+   would choose an address or a number of a handle, the answer says what the script goes on with.
 
-   This process reads and compares; each `process` line has one of its own (children.c, calls.c).  Windows 7 and later, and Wine.
+   This process reads and compares; each `process` line has one of its own (children.c, calls.c).  Windows 7 and
+   later, and Wine.
    Exit status: 0 no row is otherwise, 1 some are, 2 wrong words, 3 something failed. */
 #include "real.h"
 

@@ -1,4 +1,5 @@
-/* What the rows come to: a table on the screen, and a file of results that says of each row and line what this system did. */
+/* What the rows come to: a table on the screen, and a file of results that says of each row and line what this
+   system did. */
 #include "real.h"
 
 #define GROUPS 32
@@ -183,7 +184,8 @@ static void show_otherwise(void)
     }
 }
 
-/* Writes the results and shows them.  0 where no row is otherwise, 1 where one is, 3 where the file cannot be written. */
+/* Writes the results and shows them.  0 where no row is otherwise, 1 where one is, 3 where the file cannot be
+   written. */
 int report_end(const char *result)
 {
     int otherwise;

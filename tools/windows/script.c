@@ -169,7 +169,8 @@ static int is_call(const char *verb)
     return 0;
 }
 
-/* The answer of this system to a line, or "skip" and why it cannot be asked.  `expected` is what Windows is said to answer. */
+/* The answer of this system to a line, or "skip" and why it cannot be asked.  `expected` is what Windows is said
+   to answer. */
 void script_line(const char *line, const char *expected, char *answer)
 {
     char verb[32] = "", first[64] = "", second[64] = "", third[64] = "";

@@ -1,5 +1,6 @@
-/* Loads, stores and fetches of which any may raise: each is one instruction of a leaf function, and a handler lets the function return the status.
-   A fetch is one step at its target with the trap flag set; what is there is one harmless instruction (add %al, to memory of ours) wherever it is run. */
+/* Loads, stores and fetches of which any may raise: each is one instruction of a leaf function, and a handler lets
+   the function return the status. A fetch is one step at its target with the trap flag set; what is there is one
+   harmless instruction (add %al, to memory of ours) wherever it is run. */
 #include "real.h"
 
 #ifdef _WIN64
@@ -60,7 +61,8 @@ static int is_of_memory(DWORD status)
         || status == EXCEPTION_STACK_OVERFLOW;
 }
 
-/* While a fetch is made: goes on at the first trap, which comes before the target is fetched; ends it at anything else. */
+/* While a fetch is made: goes on at the first trap, which comes before the target is fetched; ends it at anything
+   else. */
 static void step(CONTEXT *context, const EXCEPTION_RECORD *record)
 {
     DWORD status = 0;
@@ -123,7 +125,8 @@ static int is_fetched_from(const char *page)
         && !(run.Protect & PAGE_GUARD);
 }
 
-/* Two zero bytes of the page, which are that instruction, the target's own if it can be; NULL where the page has none.  A fetch is decided by its page. */
+/* Two zero bytes of the page, which are that instruction, the target's own if it can be; NULL where the page has
+   none.  A fetch is decided by its page. */
 static const char *harmless(const char *target)
 {
     const char *page = (const char *)((ULONG_PTR)target & ~(ULONG_PTR)(PAGE - 1));

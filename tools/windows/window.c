@@ -1,5 +1,5 @@
-/* The window: an address of a script, plus a constant, is one of the process.
-   A 64-bit process has all user addresses of a 32-bit Windows in a window at 4 TiB, and those above them in the system's half.  In a 32-bit
+/* The window: an address of a script, plus a constant, is one of the process. A 64-bit process has all user
+   addresses of a 32-bit Windows in a window at 4 TiB, and those above them in the system's half. In a 32-bit
    process the window is what is free for sure below 2 GiB, and the addresses of the system are themselves. */
 #include "real.h"
 
