@@ -40,6 +40,8 @@ BLOCK = re.compile(
     r"^(?:<!-- not run: (?P<why>[^\n]*) -->\n)?```(?P<info>[^\n`]*)\n(?P<body>.*?)^```$",
     re.MULTILINE | re.DOTALL,
 )
+# Commands whose standard output is a file, or that have none.
+SILENT = re.compile(r"(?<![2&])>\s*[^&\s]|^(mkdir|cp|mv|ln|rm|cd) ")
 MADE = re.compile(r"<!-- made by: (.*?) -->\n(.*?)(?:\n\n|\Z)", re.DOTALL)
 COMMENT = re.compile(r"<!--(?! not run: | made by: ).*?-->\n?", re.DOTALL)
 LINK = re.compile(r"\]\(([^)\s]+)\)")
@@ -253,28 +255,27 @@ def file_or_nothing(path: str) -> str:
 
 
 def expected(command: str, copy: Copy) -> list[str]:
-    """What a command may write to standard output: nothing, or what is stored of its example."""
-    found = [""]
+    """What a command may write to standard output: what is stored of its example, else nothing."""
+    found: list[str] = []
     if command.startswith("tools/try "):
         found.append(tried(copy.check, command.split()[1:]))
-    cases = re.search(r"rt try --cases (\S+)", command)
-    if cases:
+    if re.search(r"rt try --cases \S+", command):
         found.append(tried_cases(Path(copy.folder) / "out/cases"))
     kept = re.search(r"< \S*?([a-z-]+)\.mm .*2> (\S+)", command)
     if kept:
         copy.logs[kept[2]] = kept[1]
+    if SILENT.search(command):
+        return [""]
     where = re.search(r"where (\S+) < \S*?([a-z-]+)\.log", command)
     if where:
-        rows = (
-            line.split(" ", 1)
-            for line in file_or_nothing(f"examples/{where[2]}.where").splitlines()
-        )
-        found += [answer + "\n" for key, answer in rows if key == where[1]]
+        rows = file_or_nothing(f"examples/{where[2]}.where").splitlines()
+        pairs = (line.split(" ", 1) for line in rows)
+        return [answer + "\n" for key, answer in pairs if key == where[1]]
     for name in re.findall(r"([\w-]+)\.(?:mm|log|txt|csv)\b", command):
         name = copy.logs.get(f"{name}.log", name)
         endings = ("out", "check", "tell", "table", "answers", "log", "csv")
         found += [file_or_nothing(f"examples/{name}.{ending}") for ending in endings]
-    return found
+    return [it for it in found if it] or [""]
 
 
 def tried_cases(folder: Path) -> str:

@@ -268,11 +268,15 @@ def unspoiled(name: str, programs: dict[str, str]) -> str:
 def main() -> int:
     parser = argparse.ArgumentParser(description=(__doc__ or "").split("\n")[0])
     parser.add_argument("--only", metavar="CHECK", help="the spoils of one check")
+    parser.add_argument("--spoils", action="store_true", help="no copies without a spoil")
+    parser.add_argument("--at-once", type=int, default=2, help="how many at once")
     check = begin(__doc__, PROGRAMS, parser)
     spoils = [it for it in SPOILS if check.words.only in (None, it.check)]
     names = sorted({it.check for it in spoils})
-    with ThreadPoolExecutor(2) as pool:
-        wholes = {name: pool.submit(unspoiled, name, check.programs) for name in names}
+    with ThreadPoolExecutor(check.words.at_once) as pool:
+        wholes = {}
+        if not check.words.spoils:
+            wholes = {name: pool.submit(unspoiled, name, check.programs) for name in names}
         results = [(it, pool.submit(tried, it, check.programs)) for it in spoils]
         for name, whole in wholes.items():
             check.same(f"{name} without a spoil", whole.result(), "")
