@@ -17,7 +17,7 @@ import shutil
 import subprocess
 import sys
 import tempfile
-from concurrent.futures import ThreadPoolExecutor
+from concurrent.futures import ThreadPoolExecutor, as_completed
 from pathlib import Path
 from typing import Callable, NamedTuple
 
@@ -158,7 +158,7 @@ def failing_rt(room: Room) -> None:
 ALWAYS_YES = '"$real" "$@"\n[ $? -ne 2 ] || exit 2\nexit 0'
 SPOILS = [
     Spoil("rows", "a stored answer", edited("tests/rows/grow.out", "ok", "ok 1"), "grow: answers"),
-    Spoil("rows", "a stored move", edited("examples/hard-fault.log", "soil", "clear"), "moves"),
+    Spoil("rows", "a stored move", edited("examples/hard-fault.log", "steal", "clear"), "moves"),
     Spoil("rows", "the column of a fault",
           edited("tests/rows/faults.txt", "19\talloc", "18\talloc"), "alloc 1 0 1 0x3000"),
     Spoil("rows", "a line's answer by prepared.mm",
@@ -249,7 +249,10 @@ def tried(spoil: Spoil, programs: dict[str, str]) -> tuple[bool, str]:
     """Whether the check refuses a spoil as expected, and the first line that it says."""
     with tempfile.TemporaryDirectory(prefix="spoiled-") as folder:
         room = Room(folder, programs, spoil.check in WHOLE)
-        spoil.how(room)
+        try:
+            spoil.how(room)
+        except (OSError, ValueError) as wrong:
+            return False, f"cannot be spoiled: {wrong}"
         status, said = room.check(spoil.check)
     found = re.search(rf"^.*{spoil.said}.*$", said, re.MULTILINE)
     shown = (found[0] if found else said[-200:]).replace(folder, "..").replace("\n", " ")
@@ -277,14 +280,14 @@ def main() -> int:
         wholes = {}
         if not check.words.spoils:
             wholes = {name: pool.submit(unspoiled, name, check.programs) for name in names}
-        results = [(it, pool.submit(tried, it, check.programs)) for it in spoils]
-        for name, whole in wholes.items():
-            check.same(f"{name} without a spoil", whole.result(), "")
+        results = {pool.submit(tried, it, check.programs): it for it in spoils}
         print("| Check | Spoil | What it says |\n|---|---|---|")
-        for spoil, result in results:
-            is_refused, shown = result.result()
+        for result in as_completed(results):
+            spoil, (is_refused, shown) = results[result], result.result()
             print(f"| {spoil.check} | {spoil.what} | {shown.replace('|', '/')} |", flush=True)
             check.holds(f"{spoil.check}: {spoil.what}", is_refused, f"is not refused: {shown}")
+        for name, whole in wholes.items():
+            check.same(f"{name} without a spoil", whole.result(), "")
     return check.end()
 
 

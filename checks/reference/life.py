@@ -101,6 +101,23 @@ def read_all(parsers: Parsers, words: Sequence[bytes]) -> Optional[list[Any]]:
     return out
 
 
+# The other moves: parsers of their words.
+FORMS: dict[bytes, Parsers] = {
+    b"drop": [read_key],
+    b"clear": [number],
+    b"steal": [number],
+    b"give": [number, read_key],
+    b"read": [number, read_key],
+    b"got": [number],
+    b"bad": [number],
+    b"map": [number, read_place],
+    b"unmap": [read_place],
+    b"soil": [number],
+    b"wrote": [number],
+    b"lost": [number],
+}
+
+
 def read_move(line: bytes) -> Optional[Move]:
     """`line` is the bytes before the line feed.  None exactly outside the spelling."""
     ws = line.split(b" ")
@@ -128,23 +145,9 @@ def read_move(line: bytes) -> Optional[Move]:
             return None
         vals = read_all([number, number], [ws[1], ws[3]])
         return None if vals is None else ("write", vals[0], ws[2].decode(), vals[1])
-    forms: dict[bytes, Parsers] = {
-        b"drop": [read_key],
-        b"clear": [number],
-        b"steal": [number],
-        b"give": [number, read_key],
-        b"read": [number, read_key],
-        b"got": [number],
-        b"bad": [number],
-        b"map": [number, read_place],
-        b"unmap": [read_place],
-        b"soil": [number],
-        b"wrote": [number],
-        b"lost": [number],
-    }
-    if w not in forms:
+    if w not in FORMS:
         return None
-    vals = read_all(forms[w], ws[1:])
+    vals = read_all(FORMS[w], ws[1:])
     return None if vals is None else (w.decode(),) + tuple(vals)
 
 
