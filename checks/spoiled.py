@@ -13,6 +13,7 @@ from __future__ import annotations
 import argparse
 import os
 import re
+import shlex
 import shutil
 import subprocess
 import sys
@@ -111,9 +112,7 @@ class Spoil(NamedTuple):
 
 def piped(name: str, words: str, change: str) -> Callable[[Room], None]:
     """A program whose standard output is changed by sed, where its words match a pattern."""
-    body = (
-        f'if [[ "$*" == {words} ]]; then "$real" "$@" | sed {change!r}; exit ${{PIPESTATUS[0]}}; fi'
-    )
+    body = f'if [[ "$*" == {words} ]]; then "$real" "$@" | sed {shlex.quote(change)}; exit ${{PIPESTATUS[0]}}; fi'
     return lambda room: room.program(name, body + '\nexec "$real" "$@"')
 
 
