@@ -329,27 +329,34 @@ def links_of_all() -> Iterator[str]:
     yield from (it for it in listed.split("\0") if "/" in it)
 
 
+def is_left(check: Check, block: Block) -> bool:
+    """Whether a block of commands is not pasted: it proves, or compiles where that is not asked."""
+    is_quick = check.words.quick and COMPILES.search(block.body)
+    return bool(PROVES.search(block.body) or is_quick)
+
+
 def compare_blocks(check: Check, copy: Copy) -> None:
     """Each block of each page."""
     files, done = stored(), set()
     for document in pages():
         blocks = blocks_of(document)
         for at, block in enumerate(blocks):
-            before = blocks[at - 1] if at else None
+            before = blocks[at - 1] if at and blocks[at - 1].is_followed else None
             following = blocks[at + 1] if block.is_followed and at + 1 < len(blocks) else None
-            is_output = before is not None and before.is_followed and before.info[:1] == ["sh"]
+            is_output = before is not None and before.info[:1] == ["sh"]
             if block.why is not None:
                 check.holds(block.place, block.why.strip() != "", "its mark has no reason")
             elif block.info[:1] == ["sh"]:
-                is_left = PROVES.search(block.body) or (
-                    check.words.quick and COMPILES.search(block.body)
-                )
-                if not is_left and block.body not in done:
+                if not is_left(check, block) and block.body not in done:
                     copy.paste(block, following)
                 done.add(block.body)
             elif block.info[:1] == ["text"] and len(block.info) > 1:
                 compare_part(check, block)
-            elif block.info in ([], ["text"]) and not (is_output and block.info):
+            elif is_output and block.info == ["text"]:
+                # what commands print that are left out is compared by itself, where it can be
+                if before and is_left(check, before) and block.body.startswith("machine "):
+                    compare_script(check, block)
+            elif block.info in ([], ["text"]):
                 compare_plain(check, block, files)
 
 
