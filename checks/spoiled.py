@@ -97,6 +97,8 @@ class Room:
         if name == "run":
             words = ["bash", ".ci/run"]
         env = {**os.environ, "PATH": f"{self.bin}:{os.environ['PATH']}"}
+        if name == "run":
+            env["MELZUDEK_BIN"] = str(self.bin)
         ended = subprocess.run(words, cwd=self.top, env=env, capture_output=True, timeout=1200)
         return ended.returncode, (ended.stdout + ended.stderr).decode(errors="replace")
 
@@ -112,7 +114,8 @@ class Spoil(NamedTuple):
 
 def piped(name: str, words: str, change: str) -> Callable[[Room], None]:
     """A program whose standard output is changed by sed, where its words match a pattern."""
-    body = f'if [[ "$*" == {words} ]]; then "$real" "$@" | sed {shlex.quote(change)}; exit ${{PIPESTATUS[0]}}; fi'
+    changed = f'"$real" "$@" | sed {shlex.quote(change)}; exit ${{PIPESTATUS[0]}}'
+    body = f'if [[ "$*" == {words} ]]; then {changed}; fi'
     return lambda room: room.program(name, body + '\nexec "$real" "$@"')
 
 
@@ -143,7 +146,7 @@ def unfaced(room: Room) -> None:
 
 def silent(room: Room) -> None:
     """A check that ends well and says nothing."""
-    (room.top / "checks/words.py").write_text("print()\n", encoding="utf-8")
+    (room.top / "checks/words.py").write_text("#!/usr/bin/env python3\nprint()\n", encoding="utf-8")
 
 
 def failing_rt(room: Room) -> None:
@@ -166,7 +169,7 @@ SPOILS = [
           piped("mmsim", "run", r"s/^ok 13 118$/ok 14 118/"), "charge"),
     Spoil("rows", "an mmlog that takes every log", stub("mmlog", ALWAYS_YES), "logs/.*status"),
     Spoil("rows", "the model: a guard that stays on",
-          edited("checks/reference/unpaged.py", "        row.guard = False\n        if page", "        if page"),
+          edited("checks/reference/unpaged.py", "row.guard = False\n        if page", "if page"),
           "without paging"),
     Spoil("rows", "no mmlog", lambda room: room.lose("mmlog"), "there is no program"),
     Spoil("examples", "an mmshow that always ends with 2", stub("mmshow", "exit 2"), "status"),
@@ -223,8 +226,8 @@ SPOILS = [
     Spoil("prose", "a name that nothing declares",
           lambda room: room.add("README.md", "\nThe call `take_all_pages` does it.\n"),
           "take_all_pages"),
-    Spoil("prose", "a crate without a row",
-          edited("docs/ARCHITECTURE.md", "| `mm_vad` |", "| `mm_wad` |"), "mm_vad"),
+    Spoil("prose", "a crate that is not on the map",
+          edited("docs/ARCHITECTURE.md", "mm_requests", "mm_queues"), "mm_requests is not on"),
     Spoil("documents", "an answer in README.md", edited("README.md", "ok AA", "ok AB"), "README"),
     Spoil("documents", "a block without tag or mark",
           lambda room: room.add("docs/GUIDE.md", "\n```\nnothing of the kind\n```\n"), "mark it"),
