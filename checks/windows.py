@@ -5,8 +5,8 @@
 
 tests/windows/README.md says what a row is. The answers of the program, and of a model without
 paging, are those of the row. The row says rightly whether Windows has others, so a change of either
-shows. The README counts the rows of each file. docs/WINDOWS.md names each row that differs, says how sure it is, and has both codes
-where only the code differs.
+shows. The README counts the rows of each file. docs/WINDOWS.md names each row that differs, says
+how sure it is, and has both codes where only the code differs.
 """
 
 from __future__ import annotations
