@@ -6,7 +6,8 @@ where it is stored; `mmlog check` takes the log, and a second run gives the same
 is a row too. The stored answers are also those of checks/reference/unpaged.py, a model without
 paging, so each row is answered by a store that pages and by one that does not. Then lines that
 are refused, with the columns of their faults; lines that are read, on a machine with processes,
-regions and sections, with their answers; logs that no run writes; and generated scripts, whose lines checks/reference/bulk.py draws from the seed.
+regions and sections, with their answers; logs that no run writes; and generated scripts, whose
+lines checks/reference/bulk.py draws from the seed.
 """
 
 from __future__ import annotations
