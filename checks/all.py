@@ -2,7 +2,8 @@
 """Runs the gate's own checks, one after another: python3 checks/all.py [--bin FOLDER] [NAME ..]
 
 Without names all of them. A check that is missing fails, and so does one that ends with another
-status than 0 or in another way than by its last line. The last line is `checks: N passed, M failed`.
+status than 0, or whose last line does not say that nothing differs. The last line is
+`checks: N passed, M failed`.
 With --bin the programs are those of a folder, else those that the gate built.
 """
 

@@ -40,6 +40,8 @@ BLOCK = re.compile(
     r"^(?:<!-- not run: (?P<why>[^\n]*) -->\n)?```(?P<info>[^\n`]*)\n(?P<body>.*?)^```$",
     re.MULTILINE | re.DOTALL,
 )
+# Commands whose standard output is a file, or that have none.
+SILENT = re.compile(r"(?<![2&])>\s*[^&\s]|^(mkdir|cp|mv|ln|rm|cd) ")
 MADE = re.compile(r"<!-- made by: (.*?) -->\n(.*?)(?:\n\n|\Z)", re.DOTALL)
 COMMENT = re.compile(r"<!--(?! not run: | made by: ).*?-->\n?", re.DOTALL)
 LINK = re.compile(r"\]\(([^)\s]+)\)")
@@ -253,28 +255,27 @@ def file_or_nothing(path: str) -> str:
 
 
 def expected(command: str, copy: Copy) -> list[str]:
-    """What a command may write to standard output: nothing, or what is stored of its example."""
-    found = [""]
+    """What a command may write to standard output: what is stored of its example, else nothing."""
+    found: list[str] = []
     if command.startswith("tools/try "):
         found.append(tried(copy.check, command.split()[1:]))
-    cases = re.search(r"rt try --cases (\S+)", command)
-    if cases:
+    if re.search(r"rt try --cases \S+", command):
         found.append(tried_cases(Path(copy.folder) / "out/cases"))
     kept = re.search(r"< \S*?([a-z-]+)\.mm .*2> (\S+)", command)
     if kept:
         copy.logs[kept[2]] = kept[1]
+    if SILENT.search(command):
+        return [""]
     where = re.search(r"where (\S+) < \S*?([a-z-]+)\.log", command)
     if where:
-        rows = (
-            line.split(" ", 1)
-            for line in file_or_nothing(f"examples/{where[2]}.where").splitlines()
-        )
-        found += [answer + "\n" for key, answer in rows if key == where[1]]
+        rows = file_or_nothing(f"examples/{where[2]}.where").splitlines()
+        pairs = (line.split(" ", 1) for line in rows)
+        return [answer + "\n" for key, answer in pairs if key == where[1]]
     for name in re.findall(r"([\w-]+)\.(?:mm|log|txt|csv)\b", command):
         name = copy.logs.get(f"{name}.log", name)
         endings = ("out", "check", "tell", "table", "answers", "log", "csv")
         found += [file_or_nothing(f"examples/{name}.{ending}") for ending in endings]
-    return found
+    return [it for it in found if it] or [""]
 
 
 def tried_cases(folder: Path) -> str:
@@ -328,27 +329,34 @@ def links_of_all() -> Iterator[str]:
     yield from (it for it in listed.split("\0") if "/" in it)
 
 
+def is_left(check: Check, block: Block) -> bool:
+    """Whether a block of commands is not pasted: it proves, or compiles where that is not asked."""
+    is_quick = check.words.quick and COMPILES.search(block.body)
+    return bool(PROVES.search(block.body) or is_quick)
+
+
 def compare_blocks(check: Check, copy: Copy) -> None:
     """Each block of each page."""
     files, done = stored(), set()
     for document in pages():
         blocks = blocks_of(document)
         for at, block in enumerate(blocks):
-            before = blocks[at - 1] if at else None
+            before = blocks[at - 1] if at and blocks[at - 1].is_followed else None
             following = blocks[at + 1] if block.is_followed and at + 1 < len(blocks) else None
-            is_output = before is not None and before.is_followed and before.info[:1] == ["sh"]
+            is_output = before is not None and before.info[:1] == ["sh"]
             if block.why is not None:
                 check.holds(block.place, block.why.strip() != "", "its mark has no reason")
             elif block.info[:1] == ["sh"]:
-                is_left = PROVES.search(block.body) or (
-                    check.words.quick and COMPILES.search(block.body)
-                )
-                if not is_left and block.body not in done:
+                if not is_left(check, block) and block.body not in done:
                     copy.paste(block, following)
                 done.add(block.body)
             elif block.info[:1] == ["text"] and len(block.info) > 1:
                 compare_part(check, block)
-            elif block.info in ([], ["text"]) and not (is_output and block.info):
+            elif is_output and block.info == ["text"]:
+                # what commands print that are left out is compared by itself, where it can be
+                if before and is_left(check, before) and block.body.startswith("machine "):
+                    compare_script(check, block)
+            elif block.info in ([], ["text"]):
                 compare_plain(check, block, files)
 
 

@@ -36,7 +36,8 @@ COMMENT = re.compile(r"<!--.*?-->", re.DOTALL)
 # Windows' names, words that a script, a log or a table may have.
 VOCABULARY = set(
     """
-sh text rt antt clang git valgrind callgrind chromium python3 bash sed awk diff paste cmp sort wc grep tee
+sh text rt antt clang git valgrind callgrind chromium python3 bash sed awk diff paste cmp sort wc
+grep tee
 black mypy apt realloc malloc alloc_zeroed ptr copy_nonoverlapping swap_remove position subst
 Ok Err None Some Option Result Vec Box String Debug Case Error core std_alloc alloc
 true false match let return loop while impl for fn type mut pub use mod where self requires ensures
@@ -47,7 +48,8 @@ machine process exit file protect query create createfile open close flush exec 
 io trim age writer zeroer fail charge counts grow watch resetwatch stack probe access thread unbind
 call busy full fault pending ok error raise none dead slot block frame line yes moves
 run bulk check tell state key faults sums html lines talk help version small large
-fromkeys dict try_get_matches_from named NAME regional tactic ap cc omega rw else unsafe args stdin stdout resize
+fromkeys dict try_get_matches_from named NAME regional tactic ap cc omega rw else unsafe args stdin
+stdout resize
 with_capacity circular_buffer from_residual matches ret heap maximum Lcg64Xsh32 __try __chkstk
 _resetstkoflw
 """.split()

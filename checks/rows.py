@@ -4,15 +4,18 @@
 tests/rows/README.md says what the files are. Of each row: status, answers, the log or a part of it
 where it is stored; `mmlog check` takes the log, and a second run gives the same bytes. Each example
 is a row too. The stored answers are also those of checks/reference/unpaged.py, a model without
-paging, so each row is answered by a store that pages and by one that does not. Then lines that are refused, with the columns of their faults; lines that are read, on
-a machine with processes, regions and sections, with their answers; logs that no run writes; and
-generated scripts, whose lines checks/reference/bulk.py draws from the seed.
+paging, so each row is answered by a store that pages and by one that does not. Then lines that
+are refused, with the columns of their faults; lines that are read, on a machine with processes,
+regions and sections, with their answers; logs that no run writes; and generated scripts, whose
+lines checks/reference/bulk.py draws from the seed.
 """
 
 from __future__ import annotations
 
+import os
 import re
 import sys
+from concurrent.futures import ThreadPoolExecutor
 
 from common import TOP, Check, Row, begin, maybe, read, rows_of, run, table
 
@@ -127,13 +130,15 @@ def four_lines(answers: list[str]) -> str:
 
 def main() -> int:
     check = begin(__doc__, ("mmsim", "mmlog"))
-    for row in rows_of("tests/rows", "examples"):
-        compare_row(check, row)
-        compare_unpaged(check, row)
-    compare_logs(check)
-    compare_faults(check)
-    compare_lines(check)
-    compare_generated(check)
+    with ThreadPoolExecutor(os.cpu_count()) as pool:
+        tasks = [pool.submit(compare_generated, check)]
+        for row in rows_of("tests/rows", "examples"):
+            tasks.append(pool.submit(compare_row, check, row))
+        tasks += [pool.submit(it, check) for it in (compare_logs, compare_faults, compare_lines)]
+        for row in rows_of("tests/rows", "examples"):
+            compare_unpaged(check, row)
+        for task in tasks:
+            task.result()
     return check.end()
 
 

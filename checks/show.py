@@ -10,7 +10,8 @@ forms are compared again, with the status and the reason why a move is not legal
 tests/rows/show/ has logs by hand with the reason of their last move, and a script by hand with the
 names behind its answers. Then scripts that do not fit, and files that are missing.
 
-With --few fewer logs are compared, for a quick look. checks/reference/README.md says what the references were written from. checks/reference/ledger.py,
+With --few fewer logs are compared, for a quick look. checks/reference/README.md says what the
+references were written from. checks/reference/ledger.py,
 the second of them, knows nothing of the first: it gives `counts`, `state` and `faults` of 100
 drawn logs.
 """

@@ -13,11 +13,12 @@ from __future__ import annotations
 import argparse
 import os
 import re
+import shlex
 import shutil
 import subprocess
 import sys
 import tempfile
-from concurrent.futures import ThreadPoolExecutor
+from concurrent.futures import ThreadPoolExecutor, as_completed
 from pathlib import Path
 from typing import Callable, NamedTuple
 
@@ -96,6 +97,8 @@ class Room:
         if name == "run":
             words = ["bash", ".ci/run"]
         env = {**os.environ, "PATH": f"{self.bin}:{os.environ['PATH']}"}
+        if name == "run":
+            env["MELZUDEK_BIN"] = str(self.bin)
         ended = subprocess.run(words, cwd=self.top, env=env, capture_output=True, timeout=1200)
         return ended.returncode, (ended.stdout + ended.stderr).decode(errors="replace")
 
@@ -111,9 +114,8 @@ class Spoil(NamedTuple):
 
 def piped(name: str, words: str, change: str) -> Callable[[Room], None]:
     """A program whose standard output is changed by sed, where its words match a pattern."""
-    body = (
-        f'if [[ "$*" == {words} ]]; then "$real" "$@" | sed {change!r}; exit ${{PIPESTATUS[0]}}; fi'
-    )
+    changed = f'"$real" "$@" | sed {shlex.quote(change)}; exit ${{PIPESTATUS[0]}}'
+    body = f'if [[ "$*" == {words} ]]; then {changed}; fi'
     return lambda room: room.program(name, body + '\nexec "$real" "$@"')
 
 
@@ -144,7 +146,7 @@ def unfaced(room: Room) -> None:
 
 def silent(room: Room) -> None:
     """A check that ends well and says nothing."""
-    (room.top / "checks/words.py").write_text("print()\n", encoding="utf-8")
+    (room.top / "checks/words.py").write_text("#!/usr/bin/env python3\nprint()\n", encoding="utf-8")
 
 
 def failing_rt(room: Room) -> None:
@@ -158,7 +160,7 @@ def failing_rt(room: Room) -> None:
 ALWAYS_YES = '"$real" "$@"\n[ $? -ne 2 ] || exit 2\nexit 0'
 SPOILS = [
     Spoil("rows", "a stored answer", edited("tests/rows/grow.out", "ok", "ok 1"), "grow: answers"),
-    Spoil("rows", "a stored move", edited("examples/hard-fault.log", "soil", "clear"), "moves"),
+    Spoil("rows", "a stored move", edited("examples/hard-fault.log", "steal", "clear"), "moves"),
     Spoil("rows", "the column of a fault",
           edited("tests/rows/faults.txt", "19\talloc", "18\talloc"), "alloc 1 0 1 0x3000"),
     Spoil("rows", "a line's answer by prepared.mm",
@@ -167,7 +169,7 @@ SPOILS = [
           piped("mmsim", "run", r"s/^ok 13 118$/ok 14 118/"), "charge"),
     Spoil("rows", "an mmlog that takes every log", stub("mmlog", ALWAYS_YES), "logs/.*status"),
     Spoil("rows", "the model: a guard that stays on",
-          edited("checks/reference/unpaged.py", "        row.guard = False\n        if page", "        if page"),
+          edited("checks/reference/unpaged.py", "row.guard = False\n        if page", "if page"),
           "without paging"),
     Spoil("rows", "no mmlog", lambda room: room.lose("mmlog"), "there is no program"),
     Spoil("examples", "an mmshow that always ends with 2", stub("mmshow", "exit 2"), "status"),
@@ -224,8 +226,8 @@ SPOILS = [
     Spoil("prose", "a name that nothing declares",
           lambda room: room.add("README.md", "\nThe call `take_all_pages` does it.\n"),
           "take_all_pages"),
-    Spoil("prose", "a crate without a row",
-          edited("docs/ARCHITECTURE.md", "| `mm_vad` |", "| `mm_wad` |"), "mm_vad"),
+    Spoil("prose", "a crate that is not on the map",
+          edited("docs/ARCHITECTURE.md", "mm_requests", "mm_queues"), "mm_requests is not on"),
     Spoil("documents", "an answer in README.md", edited("README.md", "ok AA", "ok AB"), "README"),
     Spoil("documents", "a block without tag or mark",
           lambda room: room.add("docs/GUIDE.md", "\n```\nnothing of the kind\n```\n"), "mark it"),
@@ -249,7 +251,10 @@ def tried(spoil: Spoil, programs: dict[str, str]) -> tuple[bool, str]:
     """Whether the check refuses a spoil as expected, and the first line that it says."""
     with tempfile.TemporaryDirectory(prefix="spoiled-") as folder:
         room = Room(folder, programs, spoil.check in WHOLE)
-        spoil.how(room)
+        try:
+            spoil.how(room)
+        except (OSError, ValueError) as wrong:
+            return False, f"cannot be spoiled: {wrong}"
         status, said = room.check(spoil.check)
     found = re.search(rf"^.*{spoil.said}.*$", said, re.MULTILINE)
     shown = (found[0] if found else said[-200:]).replace(folder, "..").replace("\n", " ")
@@ -268,19 +273,23 @@ def unspoiled(name: str, programs: dict[str, str]) -> str:
 def main() -> int:
     parser = argparse.ArgumentParser(description=(__doc__ or "").split("\n")[0])
     parser.add_argument("--only", metavar="CHECK", help="the spoils of one check")
+    parser.add_argument("--spoils", action="store_true", help="no copies without a spoil")
+    parser.add_argument("--at-once", type=int, default=2, help="how many at once")
     check = begin(__doc__, PROGRAMS, parser)
     spoils = [it for it in SPOILS if check.words.only in (None, it.check)]
     names = sorted({it.check for it in spoils})
-    with ThreadPoolExecutor(2) as pool:
-        wholes = {name: pool.submit(unspoiled, name, check.programs) for name in names}
-        results = [(it, pool.submit(tried, it, check.programs)) for it in spoils]
-        for name, whole in wholes.items():
-            check.same(f"{name} without a spoil", whole.result(), "")
+    with ThreadPoolExecutor(check.words.at_once) as pool:
+        wholes = {}
+        if not check.words.spoils:
+            wholes = {name: pool.submit(unspoiled, name, check.programs) for name in names}
+        results = {pool.submit(tried, it, check.programs): it for it in spoils}
         print("| Check | Spoil | What it says |\n|---|---|---|")
-        for spoil, result in results:
-            is_refused, shown = result.result()
+        for result in as_completed(results):
+            spoil, (is_refused, shown) = results[result], result.result()
             print(f"| {spoil.check} | {spoil.what} | {shown.replace('|', '/')} |", flush=True)
             check.holds(f"{spoil.check}: {spoil.what}", is_refused, f"is not refused: {shown}")
+        for name, whole in wholes.items():
+            check.same(f"{name} without a spoil", whole.result(), "")
     return check.end()
 
 

@@ -3,10 +3,10 @@
 
     python3 checks/windows.py --script NAME     prints the script of a row, to be run by hand
 
-tests/windows/README.md says what a row is. The answers of the program, and of a model without paging,
-are those of the row, and the row says rightly whether Windows has others, so a change of either shows. The README counts the rows of
-each file. docs/WINDOWS.md names each row that differs, says how sure it is, and has both codes
-where only the code differs.
+tests/windows/README.md says what a row is. The answers of the program, and of a model without
+paging, are those of the row. The row says rightly whether Windows has others, so a change of either
+shows. The README counts the rows of each file. docs/WINDOWS.md names each row that differs, says
+how sure it is, and has both codes where only the code differs.
 """
 
 from __future__ import annotations

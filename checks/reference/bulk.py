@@ -1,9 +1,13 @@
 #!/usr/bin/env python3
 """The script whose lines `mmsim bulk SEED COUNT` decides: bulk.py SEED COUNT
 
-Written from docs/PROFILE.md, "Generated scripts", and from the published PCG32 alone; the generator is first held against outputs known from outside.
+Written from docs/PROFILE.md, "Generated scripts", and from the published PCG32 alone. The generator
+is first held against outputs known from outside.
 """
+from __future__ import annotations
+
 import sys
+from typing import Iterator
 
 FIXED = """machine 64 256 4 32
 process 8 48
@@ -18,12 +22,12 @@ createfile 2 data 0x4 -
 map 2 8 0x1 0x0 0x0 0x0
 """
 STREAM = 54
-# The first outputs of that stream. Those of 42 are what the demonstration of PCG's own C code prints.
+# The first outputs of that stream. Those of 42 are what PCG's own demonstration in C prints.
 KNOWN = {42: [0xA15C02B7, 0x7B47F409, 0xBA1D3330, 0x83D2F293, 0xBFA4784B, 0xCBED606E],
          7: [0xA454B9C3, 0x6C327FBC, 0x198BC4FD, 0xB7666DE2, 0xB92C3A58, 0x7D8E9EEF]}  # fmt: skip
 
 
-def outputs(seed):
+def outputs(seed: int) -> Iterator[int]:
     """PCG32, 'XSH RR': its 32-bit outputs from a seed on."""
     step = 2 * STREAM + 1
     state = (step + seed) * 6364136223846793005 + step
@@ -34,10 +38,11 @@ def outputs(seed):
         state = state * 6364136223846793005 + step
 
 
-def events(seed, count):
+def events(seed: int, count: int) -> Iterator[str]:
+    """The drawn lines."""
     words = outputs(seed)
 
-    def draw(n):
+    def draw(n: int) -> int:
         return next(words) % n
 
     for _ in range(count):
@@ -54,11 +59,13 @@ def events(seed, count):
             yield "writer 4" if kind == 6 else "io 1"
 
 
-def main():
+def main() -> None:
     for seed, known in KNOWN.items():
         if [word for word, _ in zip(outputs(seed), known)] != known:
             sys.exit("bulk.py: this is no PCG32")
-    sys.stdout.write(FIXED + "".join(event + "\n" for event in events(int(sys.argv[1]), int(sys.argv[2]))))
+    sys.stdout.write(
+        FIXED + "".join(event + "\n" for event in events(int(sys.argv[1]), int(sys.argv[2])))
+    )
 
 
 if __name__ == "__main__":
