@@ -1,7 +1,7 @@
 """Hands on the page of `mmshow html`: what a user does in a browser, and what the page says then.
 
-One entry: check(), of checks/page.py. Each function below is a case, or several of one kind, on a page
-of its own script. What is wanted comes from the rules and from how the script was written.
+One entry: check(), of checks/page.py. Each function below is a case, or several of one kind, on a
+page of its own script. What is wanted comes from the rules and from how the script was written.
 """
 
 from __future__ import annotations

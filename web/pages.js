@@ -2,7 +2,7 @@
 // next touch costs, the dearest first.
 // One entry: makePages(page).
 const PAGE_KINDS = ['none', 'reserved', 'on disk', 'not touched', 'in memory', 'valid'];
-const [NONE, IS_RESERVED, ON_DISK, UNTOUCHED, IN_MEMORY, VALID] = PAGE_KINDS.keys();
+const [, IS_RESERVED, ON_DISK, UNTOUCHED, IN_MEMORY, VALID] = PAGE_KINDS.keys();
 const isLive = (page, line) => (page?.after(line)?.class.word ?? 'drop') !== 'drop';
 
 function makePages({ data, space, sections: { useOf, useAt } }) {

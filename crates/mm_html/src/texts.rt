@@ -99,6 +99,7 @@ background-image: repeating-linear-gradient(45deg, #0000 0 3px, var(--guard) 3px
 #spaces .inner { padding-left: 12px; color: var(--soft); }\n\
 #spaces h3 { color: var(--ink); }\n\
 #spaces td:not(:nth-child(3)) { white-space: nowrap; }\n\
+#spaces td:nth-child(3) { min-width: 140px; }\n\
 #spaces, #sections, #slots, #frames, #faults { content-visibility: auto; }\n\
 #spaces, #sections, #slots, #frames, #faults { contain-intrinsic-size: auto 400px; }\n\
 i { display: inline-block; width: 12px; height: 12px; margin: 0 4px -1px 0; }\n\
@@ -935,7 +936,7 @@ return isThere && use.line <= line;\n\
 }\n\
 const nameOfUse = (use) => (use?.section ? use.section.name : use ? 'stack ' + use.thread : '');\n\
 const PAGE_KINDS = ['none', 'reserved', 'on disk', 'not touched', 'in memory', 'valid'];\n\
-const [NONE, IS_RESERVED, ON_DISK, UNTOUCHED, IN_MEMORY, VALID] = PAGE_KINDS.keys();\n\
+const [, IS_RESERVED, ON_DISK, UNTOUCHED, IN_MEMORY, VALID] = PAGE_KINDS.keys();\n\
 const isLive = (page, line) => (page?.after(line)?.class.word ?? 'drop') !== 'drop';\n\
 function makePages({ data, space, sections: { useOf, useAt } }) {\n\
 const { pages, places } = data;\n\
@@ -1051,7 +1052,7 @@ const sizeOf = (pages) =>\n\
 pages >= 2560 ? spelled(Math.round((pages * 4) / 102.4) / 10) + ' M' : spelled(pages * 4) + ' K';\n\
 const MOST_COMPARED = 8;\n\
 function findStrangers({ data, survey, space }) {\n\
-const { machine, processes, count, lines } = data;\n\
+const { machine, count, lines } = data;\n\
 const { numbers } = survey;\n\
 const { spaces, isObserved, charge, limit } = space;\n\
 function chargedCopies(line) {\n\
