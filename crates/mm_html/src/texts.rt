@@ -1941,7 +1941,8 @@ const [frameChart, stripChart] = [makeFrameChart(page), makeStripChart(page)];\n
 const tracks = makeTracks(page, sheet);\n\
 const { frameAt, paints } = frameChart;\n\
 const { pageAt } = stripChart;\n\
-const charts = { draw, mark, show, frameAt, pageAt, paints, axis: null, whole: null };\n\
+const ways = { draw, fit, mark, show, frameAt, pageAt, paints };\n\
+const charts = { ...ways, axis: null, whole: null };\n\
 const margin = frames.length + survey.numbers.allSlots[count] < 1000 ? 84 : 126;\n\
 const numberHeight = processes.length > 7 ? 26 : 40;\n\
 let [drawn, size] = ['', null];\n\
@@ -1998,6 +1999,9 @@ drawn = looks();\n\
 drawOverview(width);\n\
 legend();\n\
 mark();\n\
+}\n\
+function fit() {\n\
+if (plot.parentElement.clientWidth !== size?.width) draw();\n\
 }\n\
 function mark(isPaper = false) {\n\
 if (!size) return;\n\
@@ -2571,7 +2575,7 @@ document.documentElement.classList.toggle('paper', isPaper);\n\
 charts.draw();\n\
 if (isPaper) charts.mark(true);\n\
 }\n\
-new ResizeObserver(charts.draw).observe(element('sheet'));\n\
+new ResizeObserver(charts.fit).observe(element('sheet'));\n\
 matchMedia('(prefers-color-scheme: dark)').addEventListener('change', charts.draw);\n\
 addEventListener('beforeprint', repaintOnPaper);\n\
 addEventListener('afterprint', repaintOnPaper);\n\
@@ -2716,6 +2720,7 @@ element('spaces').innerHTML = page.regions.show(view.line);\n\
 tables.show(state);\n\
 }\n\
 function keepPlace() {\n\
+if (parent !== window) return;\n\
 kept = addressOfView(view, data.count);\n\
 history.replaceState(null, '', kept);\n\
 }\n\
