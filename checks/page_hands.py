@@ -460,7 +460,10 @@ def regions(hands: Hands, observe: Callable[[str, bytes], bytes]) -> None:
 
 
 def without_observations(hands: Hands, observe: Callable[[str, bytes], bytes]) -> None:
-    """A page of a place is of one kind, whether regions were observed or not."""
+    """A page of a place is of one kind, whether regions were observed or not.
+
+    Only where both know the page: without observations a view that was unmapped stays.
+    """
     with open("examples/under-pressure.mm", encoding="ascii") as file:
         script = file.read()
     log, files = hands.played(script)
@@ -470,7 +473,7 @@ def without_observations(hands: Hands, observe: Callable[[str, bytes], bytes]) -
         hands.page(log, some)
         kinds.append(hands.js(KINDS))
     for what, found in (("the script", kinds[1]), ("the log alone", kinds[2])):
-        other = {name: kind for name, kind in found.items() if kinds[0][name] != kind}
+        other = {name: kind for name, kind in found.items() if kinds[0].get(name, kind) != kind}
         hands.note(f"kinds that are others by {what}", other, {})
     hands.note("there are kinds", len(kinds[2]) > 500, True)
 
