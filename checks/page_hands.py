@@ -161,9 +161,12 @@ def keys_and_clicks(hands: Hands) -> None:
 
 
 def drag(hands: Hands, first: int, last: int) -> None:
+    """Drags over the charts, which zooms."""
     for kind, line in (("Moved", first), ("Pressed", first), ("Moved", last), ("Released", last)):
         x, top = hands.line(line)
         hands.browser.mouse(kind, x, top)
+    seen = hands.js("[page.view.first, page.view.last]")
+    hands.note("a drag zooms", seen, [first, last])
 
 
 def pressure() -> tuple[bytes, list[str]]:
@@ -260,6 +263,8 @@ def before_and_after(hands: Hands) -> None:
     hands.page(log, files, "#line=13")
     turns = "[...document.querySelectorAll('#line > ol .turn')].map((one) => one.textContent)"
     hands.note("a demand-zero fault", hands.js(turns), ["frame 0: free \u2192 active s1.0"])
+    told = hands.js("document.querySelector('#line > ol').textContent")
+    hands.note("what is told of it", "is valid at" in told, False)
     fold = "document.querySelector('#line details summary').textContent"
     hands.has("the fold", hands.js(fold), "moves, in their order")
     passing = "document.querySelector('#line details').textContent"
@@ -453,6 +458,8 @@ def regions(hands: Hands, observe: Callable[[str, bytes], bytes]) -> None:
     hands.note("a copied page", copied, "read/write, valid, copied, p2.64, frame 2")
     hands.set("find", "2:0x42000")
     hands.note("a view's page", hands.js(HISTORY), "History of page s0.2")
+    private = hands.js("page.regions.pageText(2, 0x80, 15)")
+    hands.note("a private page", private, "read/write, not touched, p2.128")
     legend = hands.js("document.getElementById('legend').textContent")
     hands.has("the legend", legend, "Guard page")
     sections = hands.js("document.getElementById('sections').textContent")

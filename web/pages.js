@@ -15,17 +15,13 @@ function makePages({ data, space, sections: { useOf, useAt } }) {
   // what the log knows at a page of a region: its place, its own key, the key of its section
   function thingsAt(pid, page, stand, line) {
     const [place, own] = [places.get(idOf(pid, page)), pages.get(idOf(2 * pid, page))];
-    if (isObserved) {
-      const use = stand.type === MAPPED && useOf(pid, stand.base, line);
-      return { place, own, shared: use ? sharedKey(use, page) : undefined };
-    }
-    const use = useAt(pid, page, line);
+    if (isObserved && stand.type !== MAPPED) return { place, own };
+    const use = isObserved ? useOf(pid, stand.base, line) : useAt(pid, page, line);
     const isShared = (move) => move.page && !move.page.pid;
     const shared = use ? sharedKey(use, page) : place?.moves.find(isShared)?.page;
     return { place, own, shared };
   }
-  const keyIn = ({ place, own, shared }, line) =>
-    isLive(own, line) ? own : (shared ?? place?.after(line)?.page);
+  const keyIn = ({ own, shared }, line) => (isLive(own, line) ? own : shared);
   function kindOf(things, line) {
     if (things.place?.after(line)?.class.word === 'map') return VALID;
     const kind = keyKind(keyIn(things, line), line);

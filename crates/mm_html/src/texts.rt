@@ -946,17 +946,13 @@ const sharedKey = ({ section, offset, base }, page) =>\n\
 section && pages.get(idOf(2 * section.area + 1, page - base + offset));\n\
 function thingsAt(pid, page, stand, line) {\n\
 const [place, own] = [places.get(idOf(pid, page)), pages.get(idOf(2 * pid, page))];\n\
-if (isObserved) {\n\
-const use = stand.type === MAPPED && useOf(pid, stand.base, line);\n\
-return { place, own, shared: use ? sharedKey(use, page) : undefined };\n\
-}\n\
-const use = useAt(pid, page, line);\n\
+if (isObserved && stand.type !== MAPPED) return { place, own };\n\
+const use = isObserved ? useOf(pid, stand.base, line) : useAt(pid, page, line);\n\
 const isShared = (move) => move.page && !move.page.pid;\n\
 const shared = use ? sharedKey(use, page) : place?.moves.find(isShared)?.page;\n\
 return { place, own, shared };\n\
 }\n\
-const keyIn = ({ place, own, shared }, line) =>\n\
-isLive(own, line) ? own : (shared ?? place?.after(line)?.page);\n\
+const keyIn = ({ own, shared }, line) => (isLive(own, line) ? own : shared);\n\
 function kindOf(things, line) {\n\
 if (things.place?.after(line)?.class.word === 'map') return VALID;\n\
 const kind = keyKind(keyIn(things, line), line);\n\
