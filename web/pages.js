@@ -27,6 +27,7 @@ function makePages({ data, space, sections: { useOf, useAt } }) {
     const kind = keyKind(keyIn(things, line), line);
     return kind === VALID ? IN_MEMORY : kind; // valid in another place alone
   }
+  const kindAt = (pid, page, stand, line) => kindOf(thingsAt(pid, page, stand, line), line);
   // The kind of a key, whatever places it has.
   function keyKind(key, line) {
     if (!isLive(key, line)) return UNTOUCHED;
@@ -105,7 +106,7 @@ function makePages({ data, space, sections: { useOf, useAt } }) {
   // Whether anything ever happens to a page.
   const isTouched = (pid, page) =>
     places.has(idOf(pid, page)) || pages.get(idOf(2 * pid, page))?.moves.some(({ frame }) => frame);
-  return { decode, eachStretch, after, keyOf, keyKind, isTouched };
+  return { decode, eachStretch, after, kindAt, keyOf, keyKind, isTouched };
 }
 
 // ---- words

@@ -294,6 +294,8 @@ get now() {\n\
 return this.moves.at(-1) ?? this.start;\n\
 }\n\
 after(line) {\n\
+const { now } = this;\n\
+if (!now || now.line <= line) return now;\n\
 return this.moves[this.countUpTo(line) - 1] ?? this.start;\n\
 }\n\
 countUpTo(line) {\n\
@@ -636,20 +638,26 @@ stateAfter: (line) => stateAfter(data, numbers, line),\n\
 };\n\
 }\n\
 function stateAfter({ frames, pages, places, processes }, numbers, line) {\n\
-const after = (things) => [...things].flatMap((thing) => thing.after(line) ?? []);\n\
-const stands = after(frames);\n\
+function after(things, has) {\n\
+const found = [];\n\
+for (const thing of things) {\n\
+const stand = thing.after(line);\n\
+if (stand && has(stand)) found.push(stand);\n\
+}\n\
+return found;\n\
+}\n\
+const stands = after(frames, () => true);\n\
 const inOrder = (wanted) => stands.filter(wanted).sort((a, b) => a.since - b.since);\n\
-function pageOf({ class: { word }, place: { pid, page, uses }, frame, line: first }) {\n\
-if (word !== 'map') return [];\n\
+function pageOf({ place: { pid, page, uses }, frame, line: first }) {\n\
 const { aged } = processes[pid];\n\
 const used = uses[firstAt(uses, (use) => use > line) - 1] ?? 0;\n\
 return { pid, page, frame, age: Math.min(OLDEST, aged[line] - aged[Math.max(used, first)]) };\n\
 }\n\
-const valid = after(places.values()).flatMap(pageOf);\n\
+const valid = after(places.values(), (move) => move.class.word === 'map').map(pageOf);\n\
 valid.sort((a, b) => b.age - a.age || a.page - b.page);\n\
 return {\n\
 frames: stands,\n\
-away: after(pages.values()).filter(({ class: { word }, owner }) => !owner && word !== 'drop'),\n\
+away: after(pages.values(), (move) => !move.owner && move.class.word !== 'drop'),\n\
 lists: LISTS.map((list) => inOrder(({ state }) => state === list)),\n\
 requests: inOrder(({ request }) => request),\n\
 sets: processes.map((process) => valid.filter(({ pid }) => pid === process.pid)),\n\
@@ -958,6 +966,7 @@ if (things.place?.after(line)?.class.word === 'map') return VALID;\n\
 const kind = keyKind(keyIn(things, line), line);\n\
 return kind === VALID ? IN_MEMORY : kind;\n\
 }\n\
+const kindAt = (pid, page, stand, line) => kindOf(thingsAt(pid, page, stand, line), line);\n\
 function keyKind(key, line) {\n\
 if (!isLive(key, line)) return UNTOUCHED;\n\
 const { owner, shares, home } = key.after(line);\n\
@@ -1028,7 +1037,7 @@ return after(pid, page, line)?.key ?? own ?? (use && sharedKey(use, page));\n\
 }\n\
 const isTouched = (pid, page) =>\n\
 places.has(idOf(pid, page)) || pages.get(idOf(2 * pid, page))?.moves.some(({ frame }) => frame);\n\
-return { decode, eachStretch, after, keyOf, keyKind, isTouched };\n\
+return { decode, eachStretch, after, kindAt, keyOf, keyKind, isTouched };\n\
 }\n\
 const PROTECTIONS = {\n\
 1: ['no access', '-'],\n\
@@ -2051,7 +2060,7 @@ function makeRegions({ space: { spaces, isObserved }, sections: { useOf }, pages
 function countKinds(pid, { from, to, stand }, line) {\n\
 const counts = PAGE_KINDS.map(() => 0);\n\
 if (stand.state === RESERVED) counts[IS_RESERVED] = to - from;\n\
-else for (let page = from; page < to; page++) counts[pages.after(pid, page, line).kind]++;\n\
+else for (let page = from; page < to; page++) counts[pages.kindAt(pid, page, stand, line)]++;\n\
 return counts;\n\
 }\n\
 function typeOf(pid, stand, line) {\n\
