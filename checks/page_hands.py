@@ -412,6 +412,39 @@ CLIPPED = """(() => {
 })()"""
 
 
+def ages_and_slots(hands: Hands) -> None:
+    with open("examples/cycle-with-age.mm", encoding="ascii") as file:
+        log, files = hands.played(file.read())
+    hands.page(log, files)
+    hands.note("ages that are drawn, not those of the state", hands.js(OTHER_AGES), [])
+    log, files = pressure()
+    hands.page(log, files, "#line=43")
+    hands.note("ages that are drawn, not those of the state", hands.js(OTHER_AGES), [])
+    hands.js(LATER)
+    titles = "[...document.querySelectorAll('#slots .cell')].slice(0, 4).map(({ title }) => title)"
+    wanted = [
+        "slot 0: s1.0, on disk alone",
+        "slot 1: p1.33 0x21000, on disk alone",
+        "slot 2: p1.34 0x22000, on disk alone",
+        "slot 3: free",
+    ]
+    hands.note("slots", hands.js(titles), wanted)
+
+
+# lines after which the chart of ages has other numbers than the state
+OTHER_AGES = """page.data.lines.slice(1).flatMap(({ number }) => {
+  const { sets } = page.survey.stateAfter(number);
+  return page.data.processes.filter(Boolean).flatMap((process) => {
+    const drawn = agesOf(page.data, process).map((pages) => pages[number]);
+    const counted = drawn.map((_, at) => {
+      const has = ({ age }) => age >= AGES[at] && age < AGES[at + 1];
+      return sets[process.pid].filter(has).length;
+    });
+    return String(drawn) === String(counted) ? [] : [`${number}: ${drawn}, not ${counted}`];
+  });
+})"""
+
+
 def idle_frames(hands: Hands) -> None:
     log, files = hands.played(VIEWS.replace("machine 16", "machine 4000"))
     hands.page(log, files)
@@ -593,6 +626,7 @@ ALONE = [
     find,
     drawn,
     first_label,
+    ages_and_slots,
     idle_frames,
     many_processes,
     bad_observations,
