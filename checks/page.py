@@ -3,13 +3,13 @@
 
 usage: checks/page.py [MMSIM [MMSHOW]]
 
-The logs are those of each example, of 40 generated scripts, and of the examples with observations. Of
-each the page is byte for byte what checks/reference/show.py makes. In the browser the page writes texts
-from its own replay (checks/page_texts.js): each line in words, the counts after each, a state, the
-histories of a frame and of a page. They are compared with the reference's, whose replay is its own.
-Where there are observations, their sums have to come out. The console has to be empty.
+The logs are those of each example, of 40 generated scripts, and of the examples with observations.
+Of each the page is byte for byte what checks/reference/show.py makes. In the browser the page writes
+texts from its own replay (checks/page_texts.js): each line in words, the counts after each, a state,
+the histories of a frame and of a page. They are compared with the reference's, whose replay is its
+own. Where there are observations, their sums have to come out. The console has to be empty.
 
-Then hands (checks/page_hands.py): keys, clicks, the wheel, the find box, the address, a window around.
+Then hands (checks/page_hands.py): keys, clicks, the find box, the address, a window around.
 
 It needs Debian's chromium, and installs it where it is missing and it may. MELZUDEK_NO_BROWSER=1
 leaves the browser out: then only bytes are compared. With `reference` for MMSHOW the pages are the

@@ -1,7 +1,7 @@
 """Hands on the page of `mmshow html`: what a user does in a browser, and what the page says then.
 
-One entry: check(), of checks/page.py. Each function below is a case, or several of one kind, on a page
-of its own script. What is wanted comes from the rules and from how the script was written.
+One entry: check(), of checks/page.py. Each function below is a case, or several of one kind, on a
+page of its own script. What is wanted comes from the rules and from how the script was written.
 """
 
 from __future__ import annotations
@@ -161,9 +161,12 @@ def keys_and_clicks(hands: Hands) -> None:
 
 
 def drag(hands: Hands, first: int, last: int) -> None:
+    """Drags over the charts, which zooms."""
     for kind, line in (("Moved", first), ("Pressed", first), ("Moved", last), ("Released", last)):
         x, top = hands.line(line)
         hands.browser.mouse(kind, x, top)
+    seen = hands.js("[page.view.first, page.view.last]")
+    hands.note("a drag zooms", seen, [first, last])
 
 
 def pressure() -> tuple[bytes, list[str]]:
@@ -260,6 +263,8 @@ def before_and_after(hands: Hands) -> None:
     hands.page(log, files, "#line=13")
     turns = "[...document.querySelectorAll('#line > ol .turn')].map((one) => one.textContent)"
     hands.note("a demand-zero fault", hands.js(turns), ["frame 0: free \u2192 active s1.0"])
+    told = hands.js("document.querySelector('#line > ol').textContent")
+    hands.note("what is told of it", "is valid at" in told, False)
     fold = "document.querySelector('#line details summary').textContent"
     hands.has("the fold", hands.js(fold), "moves, in their order")
     passing = "document.querySelector('#line details').textContent"
@@ -407,6 +412,39 @@ CLIPPED = """(() => {
 })()"""
 
 
+def ages_and_slots(hands: Hands) -> None:
+    with open("examples/cycle-with-age.mm", encoding="ascii") as file:
+        log, files = hands.played(file.read())
+    hands.page(log, files)
+    hands.note("ages that are drawn, not those of the state", hands.js(OTHER_AGES), [])
+    log, files = pressure()
+    hands.page(log, files, "#line=43")
+    hands.note("ages that are drawn, not those of the state", hands.js(OTHER_AGES), [])
+    hands.js(LATER)
+    titles = "[...document.querySelectorAll('#slots .cell')].slice(0, 4).map(({ title }) => title)"
+    wanted = [
+        "slot 0: s1.0, on disk alone",
+        "slot 1: p1.33 0x21000, on disk alone",
+        "slot 2: p1.34 0x22000, on disk alone",
+        "slot 3: free",
+    ]
+    hands.note("slots", hands.js(titles), wanted)
+
+
+# lines after which the chart of ages has other numbers than the state
+OTHER_AGES = """page.data.lines.slice(1).flatMap(({ number }) => {
+  const { sets } = page.survey.stateAfter(number);
+  return page.data.processes.filter(Boolean).flatMap((process) => {
+    const drawn = agesOf(page.data, process).map((pages) => pages[number]);
+    const counted = drawn.map((_, at) => {
+      const has = ({ age }) => age >= AGES[at] && age < AGES[at + 1];
+      return sets[process.pid].filter(has).length;
+    });
+    return String(drawn) === String(counted) ? [] : [`${number}: ${drawn}, not ${counted}`];
+  });
+})"""
+
+
 def idle_frames(hands: Hands) -> None:
     log, files = hands.played(VIEWS.replace("machine 16", "machine 4000"))
     hands.page(log, files)
@@ -453,6 +491,8 @@ def regions(hands: Hands, observe: Callable[[str, bytes], bytes]) -> None:
     hands.note("a copied page", copied, "read/write, valid, copied, p2.64, frame 2")
     hands.set("find", "2:0x42000")
     hands.note("a view's page", hands.js(HISTORY), "History of page s0.2")
+    private = hands.js("page.regions.pageText(2, 0x80, 15)")
+    hands.note("a private page", private, "read/write, not touched, p2.128")
     legend = hands.js("document.getElementById('legend').textContent")
     hands.has("the legend", legend, "Guard page")
     sections = hands.js("document.getElementById('sections').textContent")
@@ -460,7 +500,10 @@ def regions(hands: Hands, observe: Callable[[str, bytes], bytes]) -> None:
 
 
 def without_observations(hands: Hands, observe: Callable[[str, bytes], bytes]) -> None:
-    """A page of a place is of one kind, whether regions were observed or not."""
+    """A page of a place is of one kind, whether regions were observed or not.
+
+    Only where both know the page: without observations a view that was unmapped stays.
+    """
     with open("examples/under-pressure.mm", encoding="ascii") as file:
         script = file.read()
     log, files = hands.played(script)
@@ -470,7 +513,7 @@ def without_observations(hands: Hands, observe: Callable[[str, bytes], bytes]) -
         hands.page(log, some)
         kinds.append(hands.js(KINDS))
     for what, found in (("the script", kinds[1]), ("the log alone", kinds[2])):
-        other = {name: kind for name, kind in found.items() if kinds[0][name] != kind}
+        other = {name: kind for name, kind in found.items() if kinds[0].get(name, kind) != kind}
         hands.note(f"kinds that are others by {what}", other, {})
     hands.note("there are kinds", len(kinds[2]) > 500, True)
 
@@ -583,6 +626,7 @@ ALONE = [
     find,
     drawn,
     first_label,
+    ages_and_slots,
     idle_frames,
     many_processes,
     bad_observations,

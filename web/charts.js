@@ -81,7 +81,8 @@ function makeCharts(page) {
   const tracks = makeTracks(page, sheet);
   const { frameAt, paints } = frameChart;
   const { pageAt } = stripChart;
-  const charts = { draw, mark, show, frameAt, pageAt, paints, axis: null, whole: null };
+  const ways = { draw, fit, mark, show, frameAt, pageAt, paints };
+  const charts = { ...ways, axis: null, whole: null };
   // for numbers at the right
   const margin = frames.length + survey.numbers.allSlots[count] < 1000 ? 84 : 126;
   const numberHeight = processes.length > 7 ? 26 : 40;
@@ -142,6 +143,10 @@ function makeCharts(page) {
     drawOverview(width);
     legend();
     mark();
+  }
+  // Draws where the width is another.
+  function fit() {
+    if (plot.parentElement.clientWidth !== size?.width) draw();
   }
   // What hangs on the chosen line; on paper it is drawn into the charts.
   function mark(isPaper = false) {

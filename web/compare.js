@@ -3,7 +3,7 @@
 const MOST_COMPARED = 8; // lines
 
 function findStrangers({ data, survey, space }) {
-  const { machine, processes, count, lines } = data;
+  const { machine, count, lines } = data;
   const { numbers } = survey;
   const { spaces, isObserved, charge, limit } = space;
 

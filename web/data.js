@@ -55,6 +55,8 @@ class Thing {
     return this.moves.at(-1) ?? this.start;
   }
   after(line) {
+    const { now } = this;
+    if (!now || now.line <= line) return now;
     return this.moves[this.countUpTo(line) - 1] ?? this.start;
   }
   countUpTo(line) {

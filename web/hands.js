@@ -120,7 +120,7 @@ function attachHands(page, show) {
     charts.draw();
     if (isPaper) charts.mark(true);
   }
-  new ResizeObserver(charts.draw).observe(element('sheet'));
+  new ResizeObserver(charts.fit).observe(element('sheet'));
   matchMedia('(prefers-color-scheme: dark)').addEventListener('change', charts.draw);
   addEventListener('beforeprint', repaintOnPaper);
   addEventListener('afterprint', repaintOnPaper);

@@ -86,7 +86,9 @@ function showPage(page) {
     element('spaces').innerHTML = page.regions.show(view.line);
     tables.show(state);
   }
+  // Within a window around the address is that window's.
   function keepPlace() {
+    if (parent !== window) return;
     kept = addressOfView(view, data.count);
     history.replaceState(null, '', kept);
   }

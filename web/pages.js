@@ -2,7 +2,7 @@
 // next touch costs, the dearest first.
 // One entry: makePages(page).
 const PAGE_KINDS = ['none', 'reserved', 'on disk', 'not touched', 'in memory', 'valid'];
-const [NONE, IS_RESERVED, ON_DISK, UNTOUCHED, IN_MEMORY, VALID] = PAGE_KINDS.keys();
+const [, IS_RESERVED, ON_DISK, UNTOUCHED, IN_MEMORY, VALID] = PAGE_KINDS.keys();
 const isLive = (page, line) => (page?.after(line)?.class.word ?? 'drop') !== 'drop';
 
 function makePages({ data, space, sections: { useOf, useAt } }) {
@@ -15,22 +15,19 @@ function makePages({ data, space, sections: { useOf, useAt } }) {
   // what the log knows at a page of a region: its place, its own key, the key of its section
   function thingsAt(pid, page, stand, line) {
     const [place, own] = [places.get(idOf(pid, page)), pages.get(idOf(2 * pid, page))];
-    if (isObserved) {
-      const use = stand.type === MAPPED && useOf(pid, stand.base, line);
-      return { place, own, shared: use ? sharedKey(use, page) : undefined };
-    }
-    const use = useAt(pid, page, line);
+    if (isObserved && stand.type !== MAPPED) return { place, own };
+    const use = isObserved ? useOf(pid, stand.base, line) : useAt(pid, page, line);
     const isShared = (move) => move.page && !move.page.pid;
     const shared = use ? sharedKey(use, page) : place?.moves.find(isShared)?.page;
     return { place, own, shared };
   }
-  const keyIn = ({ place, own, shared }, line) =>
-    isLive(own, line) ? own : (shared ?? place?.after(line)?.page);
+  const keyIn = ({ own, shared }, line) => (isLive(own, line) ? own : shared);
   function kindOf(things, line) {
     if (things.place?.after(line)?.class.word === 'map') return VALID;
     const kind = keyKind(keyIn(things, line), line);
     return kind === VALID ? IN_MEMORY : kind; // valid in another place alone
   }
+  const kindAt = (pid, page, stand, line) => kindOf(thingsAt(pid, page, stand, line), line);
   // The kind of a key, whatever places it has.
   function keyKind(key, line) {
     if (!isLive(key, line)) return UNTOUCHED;
@@ -109,7 +106,7 @@ function makePages({ data, space, sections: { useOf, useAt } }) {
   // Whether anything ever happens to a page.
   const isTouched = (pid, page) =>
     places.has(idOf(pid, page)) || pages.get(idOf(2 * pid, page))?.moves.some(({ frame }) => frame);
-  return { decode, eachStretch, after, keyOf, keyKind, isTouched };
+  return { decode, eachStretch, after, kindAt, keyOf, keyKind, isTouched };
 }
 
 // ---- words

@@ -17,7 +17,7 @@ function makeRegions({ space: { spaces, isObserved }, sections: { useOf }, pages
   function countKinds(pid, { from, to, stand }, line) {
     const counts = PAGE_KINDS.map(() => 0);
     if (stand.state === RESERVED) counts[IS_RESERVED] = to - from;
-    else for (let page = from; page < to; page++) counts[pages.after(pid, page, line).kind]++;
+    else for (let page = from; page < to; page++) counts[pages.kindAt(pid, page, stand, line)]++;
     return counts;
   }
   function typeOf(pid, stand, line) {

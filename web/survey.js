@@ -42,21 +42,27 @@ function surveyLog(data) {
 
 // How all stands after a line: each page frame and each page as its last move left it.
 function stateAfter({ frames, pages, places, processes }, numbers, line) {
-  const after = (things) => [...things].flatMap((thing) => thing.after(line) ?? []);
-  const stands = after(frames);
+  function after(things, has) {
+    const found = [];
+    for (const thing of things) {
+      const stand = thing.after(line);
+      if (stand && has(stand)) found.push(stand);
+    }
+    return found;
+  }
+  const stands = after(frames, () => true);
   const inOrder = (wanted) => stands.filter(wanted).sort((a, b) => a.since - b.since);
-  function pageOf({ class: { word }, place: { pid, page, uses }, frame, line: first }) {
-    if (word !== 'map') return [];
+  function pageOf({ place: { pid, page, uses }, frame, line: first }) {
     const { aged } = processes[pid];
     const used = uses[firstAt(uses, (use) => use > line) - 1] ?? 0;
     return { pid, page, frame, age: Math.min(OLDEST, aged[line] - aged[Math.max(used, first)]) };
   }
-  const valid = after(places.values()).flatMap(pageOf);
+  const valid = after(places.values(), (move) => move.class.word === 'map').map(pageOf);
   valid.sort((a, b) => b.age - a.age || a.page - b.page);
   return {
     frames: stands,
     // the pages without a page frame
-    away: after(pages.values()).filter(({ class: { word }, owner }) => !owner && word !== 'drop'),
+    away: after(pages.values(), (move) => !move.owner && move.class.word !== 'drop'),
     lists: LISTS.map((list) => inOrder(({ state }) => state === list)),
     requests: inOrder(({ request }) => request),
     sets: processes.map((process) => valid.filter(({ pid }) => pid === process.pid)),

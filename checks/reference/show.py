@@ -1,5 +1,5 @@
 #!/usr/bin/env python3
-"""What `mmshow` writes, in Python: the reference that its texts are compared with (checks/show, checks/page).
+"""What `mmshow` writes, in Python: the reference that its texts are compared with (checks/show, checks/page.py).
 
     show.py tell [SCRIPT [ANSWERS]] < LOG           a transcript in words; --plain before `tell`: without what the script and the
                                                     answers add to the words, as the page's own text has it

@@ -99,6 +99,7 @@ background-image: repeating-linear-gradient(45deg, #0000 0 3px, var(--guard) 3px
 #spaces .inner { padding-left: 12px; color: var(--soft); }\n\
 #spaces h3 { color: var(--ink); }\n\
 #spaces td:not(:nth-child(3)) { white-space: nowrap; }\n\
+#spaces td:nth-child(3) { min-width: 140px; }\n\
 #spaces, #sections, #slots, #frames, #faults { content-visibility: auto; }\n\
 #spaces, #sections, #slots, #frames, #faults { contain-intrinsic-size: auto 400px; }\n\
 i { display: inline-block; width: 12px; height: 12px; margin: 0 4px -1px 0; }\n\
@@ -293,6 +294,8 @@ get now() {\n\
 return this.moves.at(-1) ?? this.start;\n\
 }\n\
 after(line) {\n\
+const { now } = this;\n\
+if (!now || now.line <= line) return now;\n\
 return this.moves[this.countUpTo(line) - 1] ?? this.start;\n\
 }\n\
 countUpTo(line) {\n\
@@ -635,20 +638,26 @@ stateAfter: (line) => stateAfter(data, numbers, line),\n\
 };\n\
 }\n\
 function stateAfter({ frames, pages, places, processes }, numbers, line) {\n\
-const after = (things) => [...things].flatMap((thing) => thing.after(line) ?? []);\n\
-const stands = after(frames);\n\
+function after(things, has) {\n\
+const found = [];\n\
+for (const thing of things) {\n\
+const stand = thing.after(line);\n\
+if (stand && has(stand)) found.push(stand);\n\
+}\n\
+return found;\n\
+}\n\
+const stands = after(frames, () => true);\n\
 const inOrder = (wanted) => stands.filter(wanted).sort((a, b) => a.since - b.since);\n\
-function pageOf({ class: { word }, place: { pid, page, uses }, frame, line: first }) {\n\
-if (word !== 'map') return [];\n\
+function pageOf({ place: { pid, page, uses }, frame, line: first }) {\n\
 const { aged } = processes[pid];\n\
 const used = uses[firstAt(uses, (use) => use > line) - 1] ?? 0;\n\
 return { pid, page, frame, age: Math.min(OLDEST, aged[line] - aged[Math.max(used, first)]) };\n\
 }\n\
-const valid = after(places.values()).flatMap(pageOf);\n\
+const valid = after(places.values(), (move) => move.class.word === 'map').map(pageOf);\n\
 valid.sort((a, b) => b.age - a.age || a.page - b.page);\n\
 return {\n\
 frames: stands,\n\
-away: after(pages.values()).filter(({ class: { word }, owner }) => !owner && word !== 'drop'),\n\
+away: after(pages.values(), (move) => !move.owner && move.class.word !== 'drop'),\n\
 lists: LISTS.map((list) => inOrder(({ state }) => state === list)),\n\
 requests: inOrder(({ request }) => request),\n\
 sets: processes.map((process) => valid.filter(({ pid }) => pid === process.pid)),\n\
@@ -935,7 +944,7 @@ return isThere && use.line <= line;\n\
 }\n\
 const nameOfUse = (use) => (use?.section ? use.section.name : use ? 'stack ' + use.thread : '');\n\
 const PAGE_KINDS = ['none', 'reserved', 'on disk', 'not touched', 'in memory', 'valid'];\n\
-const [NONE, IS_RESERVED, ON_DISK, UNTOUCHED, IN_MEMORY, VALID] = PAGE_KINDS.keys();\n\
+const [, IS_RESERVED, ON_DISK, UNTOUCHED, IN_MEMORY, VALID] = PAGE_KINDS.keys();\n\
 const isLive = (page, line) => (page?.after(line)?.class.word ?? 'drop') !== 'drop';\n\
 function makePages({ data, space, sections: { useOf, useAt } }) {\n\
 const { pages, places } = data;\n\
@@ -945,22 +954,19 @@ const sharedKey = ({ section, offset, base }, page) =>\n\
 section && pages.get(idOf(2 * section.area + 1, page - base + offset));\n\
 function thingsAt(pid, page, stand, line) {\n\
 const [place, own] = [places.get(idOf(pid, page)), pages.get(idOf(2 * pid, page))];\n\
-if (isObserved) {\n\
-const use = stand.type === MAPPED && useOf(pid, stand.base, line);\n\
-return { place, own, shared: use ? sharedKey(use, page) : undefined };\n\
-}\n\
-const use = useAt(pid, page, line);\n\
+if (isObserved && stand.type !== MAPPED) return { place, own };\n\
+const use = isObserved ? useOf(pid, stand.base, line) : useAt(pid, page, line);\n\
 const isShared = (move) => move.page && !move.page.pid;\n\
 const shared = use ? sharedKey(use, page) : place?.moves.find(isShared)?.page;\n\
 return { place, own, shared };\n\
 }\n\
-const keyIn = ({ place, own, shared }, line) =>\n\
-isLive(own, line) ? own : (shared ?? place?.after(line)?.page);\n\
+const keyIn = ({ own, shared }, line) => (isLive(own, line) ? own : shared);\n\
 function kindOf(things, line) {\n\
 if (things.place?.after(line)?.class.word === 'map') return VALID;\n\
 const kind = keyKind(keyIn(things, line), line);\n\
 return kind === VALID ? IN_MEMORY : kind;\n\
 }\n\
+const kindAt = (pid, page, stand, line) => kindOf(thingsAt(pid, page, stand, line), line);\n\
 function keyKind(key, line) {\n\
 if (!isLive(key, line)) return UNTOUCHED;\n\
 const { owner, shares, home } = key.after(line);\n\
@@ -1031,7 +1037,7 @@ return after(pid, page, line)?.key ?? own ?? (use && sharedKey(use, page));\n\
 }\n\
 const isTouched = (pid, page) =>\n\
 places.has(idOf(pid, page)) || pages.get(idOf(2 * pid, page))?.moves.some(({ frame }) => frame);\n\
-return { decode, eachStretch, after, keyOf, keyKind, isTouched };\n\
+return { decode, eachStretch, after, kindAt, keyOf, keyKind, isTouched };\n\
 }\n\
 const PROTECTIONS = {\n\
 1: ['no access', '-'],\n\
@@ -1051,7 +1057,7 @@ const sizeOf = (pages) =>\n\
 pages >= 2560 ? spelled(Math.round((pages * 4) / 102.4) / 10) + ' M' : spelled(pages * 4) + ' K';\n\
 const MOST_COMPARED = 8;\n\
 function findStrangers({ data, survey, space }) {\n\
-const { machine, processes, count, lines } = data;\n\
+const { machine, count, lines } = data;\n\
 const { numbers } = survey;\n\
 const { spaces, isObserved, charge, limit } = space;\n\
 function chargedCopies(line) {\n\
@@ -1940,7 +1946,8 @@ const [frameChart, stripChart] = [makeFrameChart(page), makeStripChart(page)];\n
 const tracks = makeTracks(page, sheet);\n\
 const { frameAt, paints } = frameChart;\n\
 const { pageAt } = stripChart;\n\
-const charts = { draw, mark, show, frameAt, pageAt, paints, axis: null, whole: null };\n\
+const ways = { draw, fit, mark, show, frameAt, pageAt, paints };\n\
+const charts = { ...ways, axis: null, whole: null };\n\
 const margin = frames.length + survey.numbers.allSlots[count] < 1000 ? 84 : 126;\n\
 const numberHeight = processes.length > 7 ? 26 : 40;\n\
 let [drawn, size] = ['', null];\n\
@@ -1998,6 +2005,9 @@ drawOverview(width);\n\
 legend();\n\
 mark();\n\
 }\n\
+function fit() {\n\
+if (plot.parentElement.clientWidth !== size?.width) draw();\n\
+}\n\
 function mark(isPaper = false) {\n\
 if (!size) return;\n\
 const { axis } = charts;\n\
@@ -2050,7 +2060,7 @@ function makeRegions({ space: { spaces, isObserved }, sections: { useOf }, pages
 function countKinds(pid, { from, to, stand }, line) {\n\
 const counts = PAGE_KINDS.map(() => 0);\n\
 if (stand.state === RESERVED) counts[IS_RESERVED] = to - from;\n\
-else for (let page = from; page < to; page++) counts[pages.after(pid, page, line).kind]++;\n\
+else for (let page = from; page < to; page++) counts[pages.kindAt(pid, page, stand, line)]++;\n\
 return counts;\n\
 }\n\
 function typeOf(pid, stand, line) {\n\
@@ -2570,7 +2580,7 @@ document.documentElement.classList.toggle('paper', isPaper);\n\
 charts.draw();\n\
 if (isPaper) charts.mark(true);\n\
 }\n\
-new ResizeObserver(charts.draw).observe(element('sheet'));\n\
+new ResizeObserver(charts.fit).observe(element('sheet'));\n\
 matchMedia('(prefers-color-scheme: dark)').addEventListener('change', charts.draw);\n\
 addEventListener('beforeprint', repaintOnPaper);\n\
 addEventListener('afterprint', repaintOnPaper);\n\
@@ -2715,6 +2725,7 @@ element('spaces').innerHTML = page.regions.show(view.line);\n\
 tables.show(state);\n\
 }\n\
 function keepPlace() {\n\
+if (parent !== window) return;\n\
 kept = addressOfView(view, data.count);\n\
 history.replaceState(null, '', kept);\n\
 }\n\
