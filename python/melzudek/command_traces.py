@@ -117,16 +117,11 @@ def do_manage(given: argparse.Namespace) -> int:
     return follow(given, rules, (0, 1), ("low", "trim", "modified"))
 
 
-def follow(
-    given: argparse.Namespace,
-    rules: Sequence[Any],
-    trim: tuple[float, int],
-    more: Sequence[str] = (),
-) -> int:
-    """Gives the trace to all machines, and tells what each did."""
+def machines(given: argparse.Namespace, rules: Sequence[Any], trim: tuple[float, int]) -> Any:
+    """All combinations of what the words name."""
     from . import tracing
 
-    wanted = tracing.machines(
+    return tracing.machines(
         given.frames,
         given.age,
         slots=given.slots,
@@ -141,6 +136,18 @@ def follow(
         rules=rules,
         lines=given.lines,
     )
+
+
+def follow(
+    given: argparse.Namespace,
+    rules: Sequence[Any],
+    trim: tuple[float, int],
+    more: Sequence[str] = (),
+) -> int:
+    """Gives the trace to all machines, and tells what each did."""
+    from . import tracing
+
+    wanted = machines(given, rules, trim)
     with source(given.trace) as trace:
         rows = tracing.trace(
             trace,
