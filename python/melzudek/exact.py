@@ -29,7 +29,7 @@ from .manager import Manager, Rules
 from .rhythm import Clock, Rhythm
 from .traces.base import EXECUTE, KIND_BITS, READ, WRITE, Chunk, Codes, Pages
 
-MOST_LINES = 1_000_000
+FEWEST_LINES, MOST_LINES = 100, 1_000_000
 MOST_SLOTS = 262_144
 MOST_BLOCKS = 65_536
 KINDS = 1 << KIND_BITS
@@ -75,6 +75,10 @@ class Setup:
             )
         if not 0 <= self.slots <= MOST_SLOTS:
             raise Mistake(f"{self.slots:,} slots are none: take 0 to {MOST_SLOTS:,}")
+        if not FEWEST_LINES <= self.lines <= MOST_LINES:
+            raise Mistake(
+                f"a script of {self.lines:,} lines is none: take {FEWEST_LINES} to {MOST_LINES:,}"
+            )
         for name in {*self.minimum, *self.maximum}:
             least, most = self.limits(name)
             if not (0 <= least <= most and 1 <= most <= 65_536):
@@ -190,9 +194,13 @@ class Known(Search):
 
     def age(self, pid: int) -> None:
         rows = self.view.reshape(-1, KINDS)
+        rows[: len(self.owner)][self.by_place() == pid] = 1
+
+    def by_place(self) -> Codes:
+        """The process of each place."""
         if len(self.owners) != len(self.owner):
             self.owners = np.array(self.owner, np.int64)
-        rows[: len(self.owner)][self.owners == pid] = 1
+        return self.owners
 
 
 class Filter:
@@ -374,7 +382,7 @@ class Filter:
                 self.meet()
             codes, owners, pids = chunk.codes, None, len(self.layouts)
             if pids > 1:
-                owners = np.array(self.known.owner, np.int64)[codes >> KIND_BITS]
+                owners = self.known.by_place().take(codes >> KIND_BITS)
             for place, line in self.clock.due(owners, len(codes), pids, chunk.times):
                 self.segment(codes[self.references - start : place])
                 self.keep_house(line)
