@@ -40,7 +40,7 @@ if TYPE_CHECKING:
 COLOURS = ("#0072b2", "#d55e00", "#009e73", "#cc79a7", "#6b5b00", "#56b4e9", "#404040")
 DASHES = ("-", (0, (5, 2)), (0, (1, 1.5)), (0, (6, 2, 1.5, 2)), (0, (3, 1.5)), (0, (9, 3)), "-")
 MARKS = ("o", "s", "^", "D", "x", "v", "+")
-LISTS = {"active": "#009e73", "standby": "#56b4e9", "modified": "#d55e00", "transition": "#cc79a7"}
+LISTS = {"active": "#009e73", "standby": "#56b4e9", "modified": "#e69f00", "transition": "#cc79a7"}
 LISTS |= {"free": "#bbbbbb", "zeroed": "#e4e4e4"}
 STATES = {
     "valid": "#009e73",
