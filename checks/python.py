@@ -286,6 +286,11 @@ def main(arguments: Optional[Sequence[str]] = None) -> int:
         check.wrong(f"there is no {DEBIAN}: the package's libraries are those of Debian")
     if check.differences:
         return check.end()
+    if subprocess.run(
+        [DEBIAN, "-c", "import sys; sys.exit(sys.version_info < (3, 11))"]
+    ).returncode:
+        check.leave_out(f"all of it: {DEBIAN} is older than Python 3.11")
+        return check.end()
     try_light(check)
     lacking = missing(PACKAGES)
     try_style(check, lacking)
