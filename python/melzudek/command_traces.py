@@ -11,6 +11,7 @@ from contextlib import contextmanager
 from typing import Any, BinaryIO
 
 from .errors import Mistake
+from .libraries import require
 
 NUMBERS = "numbers with commas between"
 MOST = 1 << 40  # references from one line of housekeeping to the next
@@ -119,6 +120,7 @@ def do_manage(given: argparse.Namespace) -> int:
 
 def machines(given: argparse.Namespace, rules: Sequence[Any], trim: tuple[float, int]) -> Any:
     """All combinations of what the words name."""
+    require("numpy")
     from . import tracing
 
     return tracing.machines(
@@ -145,9 +147,9 @@ def follow(
     more: Sequence[str] = (),
 ) -> int:
     """Gives the trace to all machines, and tells what each did."""
+    wanted = machines(given, rules, trim)
     from . import tracing
 
-    wanted = machines(given, rules, trim)
     with source(given.trace) as trace:
         rows = tracing.trace(
             trace,
