@@ -12,6 +12,7 @@ are kept move nothing but `soil`, and go in together.
 
 from __future__ import annotations
 
+import re
 import subprocess
 from collections import Counter
 from collections.abc import Callable, Mapping
@@ -35,6 +36,10 @@ MOST_BLOCKS = 65_536
 KINDS = 1 << KIND_BITS
 PIECE_BITS = 4  # a file is mapped in pieces of 16 pages, a granule
 LOOK = "look"  # in place of a line: the manager's turn
+MOVES = re.compile(
+    rb"^(map|unmap|give|read|soil|write|wrote|lost) ([0-9.]+)(?: ([0-9a-z.]+))?", re.MULTILINE
+)
+Words = tuple[bytes, bytes, bytes]  # a move's word, and what it is of
 Limits = Mapping[str, int]
 
 
@@ -116,7 +121,7 @@ class Known(Search):
         self.written: set[int] = set()  # places that the script wrote
         self.gone = 0  # places that were valid
         self.stirred = True  # whether a page frame went from one list to another
-        self.actions: dict[bytes, Callable[[list[bytes]], None]] = {
+        self.actions: dict[bytes, Callable[[Words], None]] = {
             b"map": self.map,
             b"unmap": self.unmap,
             b"give": lambda words: self.changed.add(int(words[1])),
@@ -136,20 +141,17 @@ class Known(Search):
     def replay(self, text: bytes) -> None:
         """Takes moves in."""
         actions = self.actions
-        for line in text.split(b"\n"):
-            words = line.split(b" ")
-            action = actions.get(words[0])
-            if action:
-                action(words)
+        for words in MOVES.findall(text):
+            actions[words[0]](words)
 
-    def map(self, words: list[bytes]) -> None:
+    def map(self, words: Words) -> None:
         frame, number = int(words[1]), self.number[words[2]]
         self.frame[number] = frame
         self.shares.setdefault(frame, set()).add(number)
         self.valid[self.owner[number]] += 1
         self.stirred = True
 
-    def unmap(self, words: list[bytes]) -> None:
+    def unmap(self, words: Words) -> None:
         number = self.number[words[1]]
         self.shares[self.frame.pop(number)].discard(number)
         self.valid[self.owner[number]] -= 1
@@ -161,13 +163,13 @@ class Known(Search):
     def soil(self, frame: int) -> None:
         (self.again if frame in self.writing else self.changed).add(frame)
 
-    def write(self, words: list[bytes]) -> None:
+    def write(self, words: Words) -> None:
         frame = int(words[1])
         self.writing.add(frame)
         self.again.discard(frame)
         self.doubt(frame)
 
-    def wrote(self, words: list[bytes]) -> None:
+    def wrote(self, words: Words) -> None:
         frame = int(words[1])
         self.writing.discard(frame)
         if words[0] == b"wrote" and frame not in self.again:
