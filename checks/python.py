@@ -1,18 +1,18 @@
 #!/usr/bin/env python3
 """The Python package: checks/python.py [--bin FOLDER] [PROGRAM ..]
 
-    black, mypy --strict   the package and its tests
-    pytest                 the tests of python/tests
-    sweep                  60 machines on a scheduler with two workers in processes of their own, one
-                           of which is ended in the middle: all rows come, each once, with the counts
-                           of `mmlog check`; then a thousand machines on two workers
-    notebook               examples/paging.ipynb runs, by Jupyter where it is installed, else cell by
-                           cell, and draws the pictures of docs/pictures
+    black, mypy   the package and its tests
+    pytest        the tests of python/tests
+    sweep         60 machines on a scheduler with two workers in processes of their own, one of
+                  which is ended in the middle: all rows come, each once, with the counts of
+                  `mmlog check`; then a thousand machines on two workers
+    notebook      examples/paging.ipynb runs, by Jupyter where it is installed, else cell by cell,
+                  and draws the pictures of docs/pictures
 
 It needs Debian's Python with the packages of PACKAGES, which it installs where it may; what is not
 to be had is left out, and the check says so. Without words the programs are those that the gate
-built, crates/NAME/out/NAME; with --bin, or MELZUDEK_BIN, those of a folder; a PROGRAM is a file whose
-name begins with the program's. The last line is `python: N compared, no differences`.
+built, crates/NAME/out/NAME; with --bin, or MELZUDEK_BIN, those of a folder; a PROGRAM is a file
+whose name begins with the program's. The last line is `python: N compared, no differences`.
 """
 
 from __future__ import annotations
@@ -285,6 +285,11 @@ def main(arguments: Optional[Sequence[str]] = None) -> int:
     if not os.access(DEBIAN, os.X_OK):
         check.wrong(f"there is no {DEBIAN}: the package's libraries are those of Debian")
     if check.differences:
+        return check.end()
+    if subprocess.run(
+        [DEBIAN, "-c", "import sys; sys.exit(sys.version_info < (3, 11))"]
+    ).returncode:
+        check.leave_out(f"all of it: {DEBIAN} is older than Python 3.11")
         return check.end()
     try_light(check)
     lacking = missing(PACKAGES)

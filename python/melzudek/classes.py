@@ -51,12 +51,13 @@ def by_process(rows: Iterable[Mapping[str, str]]) -> dict[int, dict[str, int]]:
     """The faults of each process from the rows of `mmshow faults csv`; rows of sums are left out."""
     found: dict[int, dict[str, int]] = {}
     for row in rows:
-        if "all" in row.values():
+        if "all" in row.values() or not row["process"].isdecimal():
             continue
         counts = found.setdefault(int(row["process"]), dict.fromkeys(FAULTS, 0))
         for name, value in row.items():
-            if name in COLUMNS:
-                counts[COLUMNS[name]] += int(value)
+            group = COLUMNS.get(name.partition(" fault")[0])
+            if group and value:
+                counts[group] += int(value)
     return found
 
 

@@ -18,6 +18,7 @@ from typing import Any, NoReturn
 
 from .command_traces import add_manage, add_trace, do_manage, do_trace
 from .errors import Answered, Ended, Mistake
+from .libraries import require
 from .scripts import Value, processes, read_script
 
 Words = argparse.Namespace
@@ -246,6 +247,7 @@ def source_of(given: Words) -> Any:
 
 def trace_source(name: str, form: str) -> Any:
     """A trace in a file, by its whole path, so that workers find it."""
+    require("numpy")
     from .traces import FORMATS
     from .tracing import TraceSource
 

@@ -11,6 +11,7 @@ from contextlib import contextmanager
 from typing import Any, BinaryIO
 
 from .errors import Mistake
+from .libraries import require
 
 NUMBERS = "numbers with commas between"
 MOST = 1 << 40  # references from one line of housekeeping to the next
@@ -117,16 +118,12 @@ def do_manage(given: argparse.Namespace) -> int:
     return follow(given, rules, (0, 1), ("low", "trim", "modified"))
 
 
-def follow(
-    given: argparse.Namespace,
-    rules: Sequence[Any],
-    trim: tuple[float, int],
-    more: Sequence[str] = (),
-) -> int:
-    """Gives the trace to all machines, and tells what each did."""
+def machines(given: argparse.Namespace, rules: Sequence[Any], trim: tuple[float, int]) -> Any:
+    """All combinations of what the words name."""
+    require("numpy")
     from . import tracing
 
-    wanted = tracing.machines(
+    return tracing.machines(
         given.frames,
         given.age,
         slots=given.slots,
@@ -141,6 +138,18 @@ def follow(
         rules=rules,
         lines=given.lines,
     )
+
+
+def follow(
+    given: argparse.Namespace,
+    rules: Sequence[Any],
+    trim: tuple[float, int],
+    more: Sequence[str] = (),
+) -> int:
+    """Gives the trace to all machines, and tells what each did."""
+    wanted = machines(given, rules, trim)
+    from . import tracing
+
     with source(given.trace) as trace:
         rows = tracing.trace(
             trace,

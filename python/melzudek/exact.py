@@ -12,6 +12,7 @@ are kept move nothing but `soil`, and go in together.
 
 from __future__ import annotations
 
+import re
 import subprocess
 from collections import Counter
 from collections.abc import Callable, Mapping
@@ -29,12 +30,16 @@ from .manager import Manager, Rules
 from .rhythm import Clock, Rhythm
 from .traces.base import EXECUTE, KIND_BITS, READ, WRITE, Chunk, Codes, Pages
 
-MOST_LINES = 1_000_000
+FEWEST_LINES, MOST_LINES = 100, 1_000_000
 MOST_SLOTS = 262_144
 MOST_BLOCKS = 65_536
 KINDS = 1 << KIND_BITS
 PIECE_BITS = 4  # a file is mapped in pieces of 16 pages, a granule
 LOOK = "look"  # in place of a line: the manager's turn
+MOVES = re.compile(
+    rb"^(map|unmap|give|read|soil|write|wrote|lost) ([0-9.]+)(?: ([0-9a-z.]+))?", re.MULTILINE
+)
+Words = tuple[bytes, bytes, bytes]  # a move's word, and what it is of
 Limits = Mapping[str, int]
 
 
@@ -75,6 +80,10 @@ class Setup:
             )
         if not 0 <= self.slots <= MOST_SLOTS:
             raise Mistake(f"{self.slots:,} slots are none: take 0 to {MOST_SLOTS:,}")
+        if not FEWEST_LINES <= self.lines <= MOST_LINES:
+            raise Mistake(
+                f"a script of {self.lines:,} lines is none: take {FEWEST_LINES} to {MOST_LINES:,}"
+            )
         for name in {*self.minimum, *self.maximum}:
             least, most = self.limits(name)
             if not (0 <= least <= most and 1 <= most <= 65_536):
@@ -112,7 +121,7 @@ class Known(Search):
         self.written: set[int] = set()  # places that the script wrote
         self.gone = 0  # places that were valid
         self.stirred = True  # whether a page frame went from one list to another
-        self.actions: dict[bytes, Callable[[list[bytes]], None]] = {
+        self.actions: dict[bytes, Callable[[Words], None]] = {
             b"map": self.map,
             b"unmap": self.unmap,
             b"give": lambda words: self.changed.add(int(words[1])),
@@ -132,20 +141,17 @@ class Known(Search):
     def replay(self, text: bytes) -> None:
         """Takes moves in."""
         actions = self.actions
-        for line in text.split(b"\n"):
-            words = line.split(b" ")
-            action = actions.get(words[0])
-            if action:
-                action(words)
+        for words in MOVES.findall(text):
+            actions[words[0]](words)
 
-    def map(self, words: list[bytes]) -> None:
+    def map(self, words: Words) -> None:
         frame, number = int(words[1]), self.number[words[2]]
         self.frame[number] = frame
         self.shares.setdefault(frame, set()).add(number)
         self.valid[self.owner[number]] += 1
         self.stirred = True
 
-    def unmap(self, words: list[bytes]) -> None:
+    def unmap(self, words: Words) -> None:
         number = self.number[words[1]]
         self.shares[self.frame.pop(number)].discard(number)
         self.valid[self.owner[number]] -= 1
@@ -157,13 +163,13 @@ class Known(Search):
     def soil(self, frame: int) -> None:
         (self.again if frame in self.writing else self.changed).add(frame)
 
-    def write(self, words: list[bytes]) -> None:
+    def write(self, words: Words) -> None:
         frame = int(words[1])
         self.writing.add(frame)
         self.again.discard(frame)
         self.doubt(frame)
 
-    def wrote(self, words: list[bytes]) -> None:
+    def wrote(self, words: Words) -> None:
         frame = int(words[1])
         self.writing.discard(frame)
         if words[0] == b"wrote" and frame not in self.again:
@@ -190,9 +196,13 @@ class Known(Search):
 
     def age(self, pid: int) -> None:
         rows = self.view.reshape(-1, KINDS)
+        rows[: len(self.owner)][self.by_place() == pid] = 1
+
+    def by_place(self) -> Codes:
+        """The process of each place."""
         if len(self.owners) != len(self.owner):
             self.owners = np.array(self.owner, np.int64)
-        rows[: len(self.owner)][self.owners == pid] = 1
+        return self.owners
 
 
 class Filter:
@@ -374,7 +384,7 @@ class Filter:
                 self.meet()
             codes, owners, pids = chunk.codes, None, len(self.layouts)
             if pids > 1:
-                owners = np.array(self.known.owner, np.int64)[codes >> KIND_BITS]
+                owners = self.known.by_place().take(codes >> KIND_BITS)
             for place, line in self.clock.due(owners, len(codes), pids, chunk.times):
                 self.segment(codes[self.references - start : place])
                 self.keep_house(line)

@@ -13,9 +13,9 @@ and moves have to be the same. The standard library is enough.
 from __future__ import annotations
 
 from bisect import bisect_left, bisect_right
-from collections.abc import Iterator
+from collections.abc import Iterable, Iterator
 from dataclasses import dataclass, field
-from itertools import zip_longest
+from itertools import chain, zip_longest
 from typing import NamedTuple, Protocol
 
 from .channel import Channel, batches, encode
@@ -220,11 +220,16 @@ class Observer:
         self.told += len(moves)
         self.seen.lines += 1
         self.answers.append(answer)
-        windows = [*before, *self.after(words, answer)]
+        windows: Iterable[Window] = chain(before, self.after(words, answer))
         if self.whole:
+            list(windows)
             windows = [(pid, FIRST_USER, USER_END) for pid in self.spaces]
-        for pid, low, high in windows:
+        noted = len(self.seen.regions)
+        for pid, low, high in windows:  # one by one: what was walked says where to walk on
             self.walk(pid, low, high)
+        self.seen.regions[noted:] = sorted(
+            self.seen.regions[noted:], key=lambda it: (it.pid, it.region.base)
+        )
         if words[0] == "exit" and answer == "ok":
             self.end(number(words[1]))
         if self.whole or (words[0] in CHARGED and answer.startswith("ok")):
@@ -289,10 +294,10 @@ class Observer:
         else:
             pid = given[0]
             yield pid, value, value + 1
-            while (end := self.spaces[pid].allocation(value)[1]) < USER_END:
+            end = value
+            while end < self.spaces[pid].allocation(value)[1] < USER_END:
+                end = self.spaces[pid].allocation(value)[1]
                 yield pid, end, end + 1
-                if self.spaces[pid].allocation(value)[1] == end:
-                    break
 
     def stepped(self, word: str, given: list[str], answer: str) -> Iterator[Window]:
         """By a step of a thread: of the access that it begins, or keeps."""

@@ -12,6 +12,7 @@ from __future__ import annotations
 
 import io
 import os
+import re
 from collections.abc import Iterable, Iterator, Mapping, Sequence
 from pathlib import Path
 from typing import TYPE_CHECKING, Any
@@ -39,7 +40,7 @@ if TYPE_CHECKING:
 COLOURS = ("#0072b2", "#d55e00", "#009e73", "#cc79a7", "#6b5b00", "#56b4e9", "#404040")
 DASHES = ("-", (0, (5, 2)), (0, (1, 1.5)), (0, (6, 2, 1.5, 2)), (0, (3, 1.5)), (0, (9, 3)), "-")
 MARKS = ("o", "s", "^", "D", "x", "v", "+")
-LISTS = {"active": "#009e73", "standby": "#56b4e9", "modified": "#d55e00", "transition": "#cc79a7"}
+LISTS = {"active": "#009e73", "standby": "#56b4e9", "modified": "#e69f00", "transition": "#cc79a7"}
 LISTS |= {"free": "#bbbbbb", "zeroed": "#e4e4e4"}
 STATES = {
     "valid": "#009e73",
@@ -173,16 +174,21 @@ def curves(
         axes.set_xlabel(WORDS.get(across, across))
         axes.set_title(title)
         scale(axes, sorted(set(table[across])))
-        if costs:
-            axes.set_ylabel("effective access time")
-            axes.set_ylim(bottom=0)
-            axes.yaxis.set_major_formatter(FuncFormatter(lambda value, _: spelled(value)))
-        else:
-            axes.set_ylabel(WORDS.get(ups[0], ups[0]) if len(ups) == 1 else "")
-            counted(axes)
+        heights(axes, ups)
         if len(lines) > 1:
             axes.legend()
     return Picture(made)
+
+
+def heights(axes: Any, ups: Sequence[str]) -> None:
+    """What stands at the left: times, or numbers of faults."""
+    if ups == ["cost"]:
+        axes.set_ylabel("effective access time")
+        axes.set_ylim(bottom=0)
+        axes.yaxis.set_major_formatter(FuncFormatter(lambda value, _: spelled(value)))
+    else:
+        axes.set_ylabel(WORDS.get(ups[0], ups[0]) if len(ups) == 1 else "")
+        counted(axes)
 
 
 def sweep_table(rows: Any) -> Any:
@@ -240,7 +246,7 @@ def scale(axes: Any, places: list[Any]) -> None:
 def lists(run: Run, title: str = "") -> Picture:
     """Page frames by list over the lines of a run, and below them each working set."""
     counts = run.counts
-    sets = [name for name in counts.columns if "working" in name or name.startswith("set")]
+    sets = [name for name in counts.columns if re.search("[0-9]", name)]  # of each process one
     with matplotlib.rc_context(STYLE):
         made, axes = figure(2 if sets else 1, 5.6 if sets else HEIGHT, [3, 2] if sets else None)
         known = [name for name in LISTS if name in counts.columns]
@@ -300,6 +306,8 @@ def charge_table(rows: Any) -> Any:
             found.append((rows.lines, *found[-1][1:]))
         rows = pandas.DataFrame(found, columns=["line", "charge", "limit"])
     table = pandas.DataFrame(rows)
+    for word in ("charge", "limit"):
+        table = table.rename(columns={name: word for name in table.columns if word in name})
     if not {"line", "charge", "limit"} <= set(table.columns):
         raise Mistake("the rows have no columns line, charge and limit")
     table = table.dropna(subset=["charge", "limit"])

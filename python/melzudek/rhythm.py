@@ -27,8 +27,9 @@ class Rhythm:
     by_time: bool = False
 
     def __post_init__(self) -> None:
-        if not all(every > 0 for every, _ in self.rules):
-            raise Mistake("a rhythm comes after each 1 or more references")
+        for every, line in self.rules:
+            if not every > 0 or (not self.by_time and every != int(every)):
+                raise Mistake(f"`{line}` each {every} references is no rhythm: take a whole number")
 
     @classmethod
     def of(

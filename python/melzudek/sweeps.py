@@ -17,7 +17,9 @@ import csv
 import itertools
 import logging
 import os
+import signal
 import tempfile
+import threading
 import zipfile
 from collections.abc import Iterable, Iterator, Mapping, Sequence
 from pathlib import Path
@@ -208,14 +210,15 @@ class Cluster:
 
     def begin(self, distributed: Any, folder: str) -> None:
         """Workers of this machine, whose files lie in the folder and go with it."""
-        cluster = distributed.LocalCluster(
-            n_workers=self.workers,
-            threads_per_worker=1,
-            processes=True,
-            dashboard_address=None,
-            local_directory=folder,
-            silence_logs=logging.CRITICAL,
-        )
+        with uninterrupted():
+            cluster = distributed.LocalCluster(
+                n_workers=self.workers,
+                threads_per_worker=1,
+                processes=True,
+                dashboard_address="127.0.0.1:0",
+                local_directory=folder,
+                silence_logs=logging.CRITICAL,
+            )
         self.left.callback(cluster.close)
         self.client = self.left.enter_context(distributed.Client(cluster))
 
@@ -233,6 +236,19 @@ class Cluster:
             where = f"the scheduler at {self.scheduler} has no worker"
             raise Mistake(f"{where}: `dask-worker {self.scheduler}` begins one") from error
         self.client.upload_file(package(folder))
+
+
+@contextlib.contextmanager
+def uninterrupted() -> Iterator[None]:
+    """Processes that begin in here are not interrupted by Ctrl-C, which is for this one alone."""
+    if threading.current_thread() is not threading.main_thread():
+        yield
+        return
+    before = signal.signal(signal.SIGINT, signal.SIG_IGN)
+    try:
+        yield
+    finally:
+        signal.signal(signal.SIGINT, before)
 
 
 @contextlib.contextmanager

@@ -12,6 +12,7 @@ kept as it is.
 
 from __future__ import annotations
 
+import contextlib
 import html
 import os
 import shutil
@@ -109,10 +110,10 @@ class Run:
     @cached_property
     def counts(self) -> Any:
         """`mmshow counts csv`: after each line the lists, working sets and the charge."""
-        try:
-            return self.told("counts", "csv", *self.texts)
-        except TooOld:
-            return self.told("counts", "csv")
+        for files in (self.texts, self.texts[1:]):  # the charge is in the answers
+            with contextlib.suppress(TooOld):
+                return self.told("counts", "csv", *files)
+        return self.told("counts", "csv")
 
     @cached_property
     def totals(self) -> dict[str, int]:

@@ -171,23 +171,35 @@ def trace(
     run = [Machine(it, pages, scripts.of(it), parts, blocks) for it in wanted]
     sizes = [it.setup.frames for it in wanted]
     whole = Policies(pages, sizes) if policies and not FORMATS[form].samples else None
+    try:
+        follow(read(progress.source, form, pages), progress, run, whole)
+        if tell:
+            tell_what_is_special(form, run, tell)
+        for machine in run:
+            check_names(machine.wanted.setup, pages)
+            machine.end()
+    finally:
+        for machine in run:
+            machine.filter.channel.close()
+    rows = [row for machine in run for row in machine.rows]
+    if whole:
+        add_policies(rows, whole.faults())
+    return rows
+
+
+def follow(
+    chunks: Iterable[Chunk], progress: Progress, run: Sequence[Machine], whole: Policies | None
+) -> None:
+    """Gives the references to all machines and policies."""
     with progress:
-        for chunk in read(progress.source, form, pages):
+        for chunk in chunks:
             for machine in run:
                 machine.take(chunk)
             if whole:
                 whole.take(chunk)
             progress.pass_by(len(chunk.codes), run)
-    if tell:
-        tell(progress.words(run))
-        tell_what_is_special(form, run, tell)
-    for machine in run:
-        check_names(machine.wanted.setup, pages)
-        machine.end()
-    rows = [row for machine in run for row in machine.rows]
-    if whole:
-        add_policies(rows, whole.faults())
-    return rows
+    if progress.tell:
+        progress.tell(progress.words(run))
 
 
 def tell_what_is_special(form: str, run: Sequence[Machine], tell: Callable[[str], None]) -> None:

@@ -151,6 +151,25 @@ def test_one_sentence(
     assert told.startswith(why) and told.count("\n") == 1
 
 
+@pytest.mark.parametrize(
+    ("words", "package"),
+    [
+        (["sweep", TWO, "--vary", "age=8"], "python3-dask python3-distributed python3-tqdm"),
+        (["sweep", TWO, "--format", "csv", "--vary", "age=8"], "python3-numpy"),
+        (["trace", "csv", "/dev/null"], "python3-numpy"),
+    ],
+)
+def test_a_library_that_is_missing(
+    capsys: pytest.CaptureFixture[str],
+    monkeypatch: pytest.MonkeyPatch,
+    words: list[str],
+    package: str,
+) -> None:
+    monkeypatch.setattr("importlib.util.find_spec", lambda name: None)
+    status, said, told = answer(capsys, *words)
+    assert (status, said, told.count("\n")) == (1, "", 1) and f"`apt-get install {package}`" in told
+
+
 def test_a_reader_that_goes_away() -> None:
     one = [sys.executable, "-m", "melzudek", "run", TWO, "--table", "moves"]
     two = subprocess.Popen(one, stdout=subprocess.PIPE, stderr=subprocess.PIPE)

@@ -236,13 +236,14 @@ def test_a_missing_program(monkeypatch: pytest.MonkeyPatch) -> None:
 
 
 def test_more_moves_than_a_pipe_holds() -> None:
+    before = set(threading.enumerate())  # those of other tests in this process
     with Machine(frames=8000, slots=8) as m:
         process = m.process()
         base = process.alloc(size=7000 * 4096)
         m.run(f"write 1 0x{base + 4096 * page:X} 01" for page in range(7000))
         process.exit()
         assert len(m.moves) == 14_000
-        assert not [it for it in threading.enumerate() if it is not threading.main_thread()]
+        assert set(threading.enumerate()) <= before
 
 
 def test_a_saved_run_replays(tmp_path: Path) -> None:

@@ -24,7 +24,7 @@ MORE = draw.one_of(
 )
 
 
-@settings(max_examples=40, deadline=None, suppress_health_check=list(HealthCheck))
+@settings(max_examples=60, deadline=None, suppress_health_check=list(HealthCheck))
 @given(draw.lists(MORE, max_size=40))
 def test_windows_tell_what_whole_walks_tell(lines: list[str]) -> None:
     script = [*HEAD, *lines]
@@ -41,6 +41,15 @@ def test_windows_tell_what_whole_walks_tell(lines: list[str]) -> None:
                 assert seen.space(pid, len(script)) == walked
             else:
                 assert seen.space(pid, len(script)) == []
+
+
+def test_a_view_of_many_runs() -> None:
+    """A section that is committed in pieces, and then mapped by another process."""
+    pieces = [f"alloc 2 0x1{page}000 0x1000 0x1000 0x4" for page in (1, 3, 4, 6)]
+    script = [*HEAD, *pieces, "map 1 4 0x4 0x0 0x0 0x0", "map 1 4 0x1 0x0 0x0 0x0"]
+    seen = observe(script)
+    assert seen == observe(script, whole=True)
+    assert len(seen.space(1, len(script))) == 1 + 7 + 7
 
 
 def test_the_file() -> None:

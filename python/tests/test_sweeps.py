@@ -12,7 +12,7 @@ from clusters import cluster
 
 from melzudek import Mistake
 from melzudek.scripts import processes, varied
-from melzudek.sweeps import Cluster, sweep
+from melzudek.sweeps import Cluster, finished, sweep
 from melzudek.tables import run
 from melzudek.workers import BulkSource, Failure, ScriptSource, packed, placed, tools, unpacked
 
@@ -159,3 +159,20 @@ def test_varied_scripts() -> None:
     assert changed[:3] == ["machine 8 8 2 0", "process 0 9", "process 3 9"]
     assert changed[3:] == ["read 2 0x10000 1", "age 2", "io 1", "io 1"]
     assert "age 1" not in list(varied(lines, {"age": 0}))
+
+
+class Lost:
+    """A task that did not end as it should."""
+
+    def __init__(self, status: str) -> None:
+        self.status = status
+
+    def exception(self) -> Exception:
+        return MemoryError("three workers\nran out of memory")
+
+
+def test_a_task_that_no_worker_ends_is_a_row() -> None:
+    row = finished(Lost("error"), {"frames": 8})
+    assert row == {"frames": 8, "reason": "MemoryError: three workers ran out of memory"}
+    with pytest.raises(Mistake, match="the scheduler is gone: the rows so far are kept"):
+        finished(Lost("cancelled"), {"frames": 8})
