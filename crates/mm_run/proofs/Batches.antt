@@ -8,8 +8,8 @@ use Rattle.mm_types.specs.declared.answers.Answer.TheVariants as answer
 use Rattle.mm_types.specs.declared.events.Event.TheVariants as line
 use Rattle.mm_line_moves.specs.{first_move}
 use Rattle.mm_run.specs.{Ending, Outset, Stage, NotBegun, Running, Follows, HasNoted, log_of, MachineIsMade, Moved, DecidedLine, last_stage}
-use Rattle.mm_run.specs.{answers_in, BreaksOff, AreDecided, IsEventNext, ClosesEvents, HeadIsMuted, MutesEvent, BulkStops, events_in, begins_ok, is_none, FaultCounts}
-use Rattle.mm_run.specs.{IsBlamed, IsUnanswered, Handled, Stopped}
+use Rattle.mm_run.specs.{answers_in, BreaksOff, AreDecided, IsEventNext, ClosesEvents, HeadIsMuted, HeadWantsMemory, MutesEvent, BulkStops, events_in, begins_ok, is_none, FaultCounts}
+use Rattle.mm_run.specs.{BreaksLine, IsBlamed, IsUnanswered, Handled, Stopped}
 use Rattle.mm_run.specs.declared.endings.Ending.TheVariants as ending
 use Rattle.mm_dispatch.specs.{Scene}
 use Rattle.mm_run.proofs.Stories.{follows_here, last-append}
@@ -52,8 +52,8 @@ some_left e left (inr (inr q)) some = subst (λ (k : Ending). BulkStops k left) 
 
 -- the next event is not decided, or not noted
 module _ (s z : Stage) (es left : List Event) (ok none : ℕ) (h : Handled s es ok none z) (some : 0 < length left) where
-  stopped_by : (e : Ending) (end : Stage) → (e ≡ ending.NoMemory) ⊎ ((e ≡ ending.MovesFault) ⊎ (e ≡ ending.SetupFault)) → ClosesEvents e z end → (e ≡ ending.MovesFault → HeadIsMuted left z end) → Stopped s (es ++ left) e end
-  stopped_by e end which closes muted = record {
+  stopped_by : (e : Ending) (end : Stage) → (e ≡ ending.NoMemory) ⊎ ((e ≡ ending.MovesFault) ⊎ (e ≡ ending.SetupFault)) → ClosesEvents e z end → (e ≡ ending.MovesFault → HeadIsMuted left z end) → (e ≡ ending.NoMemory → HeadWantsMemory left z end) → Stopped s (es ++ left) e end
+  stopped_by e end which closes muted wants = record {
     lines = h.lines;
     left = left;
     events_are = ap (λ xs. xs ++ left) (sym h.events_are);
@@ -62,27 +62,38 @@ module _ (s z : Stage) (es left : List Event) (ok none : ℕ) (h : Handled s es 
     some = some;
     closes = subst (λ (x : Stage). ClosesEvents e x end) h.end_is closes;
     muted = λ q. subst (λ (x : Stage). HeadIsMuted left x end) h.end_is (muted q);
+    wants = λ q. subst (λ (x : Stage). HeadWantsMemory left x end) h.end_is (wants q);
   }
 
-  pub stopped_memory : (end : Stage) → Follows z end ⊎ BreaksOff z end → Stopped s (es ++ left) ending.NoMemory end
-  stopped_memory end closes = stopped_by ending.NoMemory end (inl refl) closes (λ q. cc)
+  pub stopped_memory : (end : Stage) → Follows z end ⊎ BreaksOff z end → HeadWantsMemory left z end → Stopped s (es ++ left) ending.NoMemory end
+  stopped_memory end closes wants = stopped_by ending.NoMemory end (inl refl) closes (λ q. cc) (λ q. wants)
 
   pub stopped_moves : (end : Stage) (e : Event) (a : Answer) (rest : List Event) → left ≡ e ∷ rest → Moved z e a end → (log_of end).failed ≡ true → Stopped s (es ++ left) ending.MovesFault end
   stopped_moves end e a rest head m failed =
       let mutes : MutesEvent z end = record { line = decided_event e a m.moves z end; next = record { follows = follows_here z; decided = m.decided }; failed = failed; after = refl } in
-      stopped_by ending.MovesFault end (inr (inl refl)) (inr mutes) (λ q. inr (mutes, (rest, head)))
+      stopped_by ending.MovesFault end (inr (inl refl)) (inr mutes) (λ q. inr (mutes, (rest, head))) (λ q. cc)
 
 -- nothing was decided
-pub stopped_here : (s : Stage) (es : List Event) (e : Ending) → (e ≡ ending.NoMemory) ⊎ (e ≡ ending.SetupFault) → 0 < length es → Stopped s es e s
-stopped_here s es e (inl q) some = subst (λ (k : Ending). Stopped s es k s) (sym q) (stopped_by s s [] es 0 0 (handled_none s) some ending.NoMemory s (inl refl) (inl (follows_here s)) (λ p. cc))
-stopped_here s es e (inr q) some = subst (λ (k : Ending). Stopped s es k s) (sym q) (stopped_by s s [] es 0 0 (handled_none s) some ending.SetupFault s (inr (inr refl)) (follows_here s) (λ p. cc))
+pub stopped_here : (o : Outset) (es : List Event) (e : Ending) → (e ≡ ending.NoMemory) ⊎ (e ≡ ending.SetupFault) → 0 < length es → Stopped (NotBegun o) es e (NotBegun o)
+stopped_here o es e (inl q) some =
+    let s : Stage = NotBegun o in
+    subst (λ (k : Ending). Stopped s es k s) (sym q)
+    (stopped_by s s [] es 0 0 (handled_none s) some ending.NoMemory s (inl refl) (inl (follows_here s)) (λ p. cc) (λ p. follows_here s))
+stopped_here o es e (inr q) some =
+    let s : Stage = NotBegun o in
+    subst (λ (k : Ending). Stopped s es k s) (sym q)
+    (stopped_by s s [] es 0 0 (handled_none s) some ending.SetupFault s (inr (inr refl)) (follows_here s) (λ p. cc) (λ p. cc))
 
 -- how an event that was not noted stops the rest
 pub stopped_next : (s : Stage) (z y : Scene) (es left : List Event) (ok none : ℕ) (event : Event) (e : Ending) (rest : List Event) → left ≡ event ∷ rest → Handled s es ok none (Running z) → 0 < length left
     → IsUnanswered z event e y → Stopped s (es ++ left) e (Running y)
 stopped_next s z y es left ok none event e rest head h some (inl b) =
     subst (λ (k : Ending). Stopped s (es ++ left) k (Running y)) (sym b.0)
-    (stopped_memory s (Running z) es left ok none h some (Running y) (inr (record { before = Running z; follows = follows_here (Running z); breaks = b.1.breaks })))
+    (stopped_memory s (Running z) es left ok none h some (Running y) (inr (off b.1.breaks))
+    (record { event = event; rest = rest; head = head; takes = b.1.takes; breaks = off b.1.breaks }))
+  where
+    off : BreaksLine z y → BreaksOff (Running z) (Running y)
+    off breaks = record { before = Running z; follows = follows_here (Running z); breaks = breaks }
 stopped_next s z y es left ok none event e rest head h some (inr m) =
     subst (λ (k : Ending). Stopped s (es ++ left) k (Running y)) (sym m.0)
     (stopped_moves s (Running z) es left ok none h some (Running y) event m.1.0 rest head m.1.1 m.2)
@@ -122,6 +133,7 @@ module _ (m : MachineOf) (o : Outset) (s : Scene) (made : MachineIsMade m o s) w
       some = h.some;
       closes = h.closes;
       muted = h.muted;
+      wants = h.wants;
     }
 
   pub first_muted : (es : List Event) → s.behind.log.failed ≡ true → Stopped (NotBegun o) (line.Machine m ∷ es) ending.MovesFault (Running s)
@@ -136,6 +148,7 @@ module _ (m : MachineOf) (o : Outset) (s : Scene) (made : MachineIsMade m o s) w
         some = omega arith;
         closes = inr mutes;
         muted = λ q. inr (mutes, (es, refl));
+        wants = λ q. cc;
       }
 
 -- ---- the events of a list, from the first on

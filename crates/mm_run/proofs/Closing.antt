@@ -5,7 +5,7 @@ use Rattle.mm_types.proofs.{append_nil, appended_then, rose_later}
 use Rattle.mm_move_rules.specs.{Log, IsFrontOf}
 use Rattle.mm_move_rules.proofs.{front_of_then, gave_nothing}
 use Rattle.mm_run.specs.{Ending, Stage, NotBegun, Running, outset, log_of, DecidedLine, HoldMovesOf, last_stage, answers_in, moves_of, last_text}
-use Rattle.mm_run.specs.{status_of, CameFrom, Comes, FaultCounts, IsBlamed, SettlesRun, StandsAt, fault_counts_with, outside, stand, ClosesRun}
+use Rattle.mm_run.specs.{status_of, CameFrom, Comes, FaultCounts, IsBlamed, SettlesRun, StandsAt, fault_counts_with, most_kept, outside, stand, ClosesRun}
 use Rattle.mm_run.specs.{DeviceLeft, Left, StageLeaves, IsLeft, IsLogLeft, SinkSeen, GaveMoves, Drops, Closed, is_over, IsAccounted, Around}
 use Rattle.mm_run.specs.{EndsTelling, GaveAll, begun_at}
 use Rattle.mm_run.specs.declared.endings.Ending.TheVariants as ending
@@ -122,8 +122,8 @@ module _ (a b : Around) (e : Ending) (form : Type 0) (yes_form : form → e ≢ 
           ran_by (came.told ++ came.still) [] (came.written ++ text) (came.split ∙ sym (append_nil (came.told ++ came.still))) gave_all (appended_then a.took o b.took came.written text came.wrote w) ends
 
   -- a sink had failed, or the source
-  ends_over : (f : Ending) (told still : List DecidedLine) (written : Text) → is_over f ≡ true → status ≡ status_of f → StandsAt f told still written → (f ≡ ending.ReadFault → still ≡ []) → (f ≡ ending.ReadFault → GaveAll a → GaveAll b) → EndsTelling a b status f told still written
-  ends_over ending.ReadFault told still written q s stands none gave =
+  ends_over : (f : Ending) (told still : List DecidedLine) (written : Text) → is_over f ≡ true → status ≡ status_of f → StandsAt f told still written → length (spelled (answers_in still)) ≤ most_kept → (f ≡ ending.ReadFault → still ≡ []) → (f ≡ ending.ReadFault → GaveAll a → GaveAll b) → EndsTelling a b status f told still written
+  ends_over ending.ReadFault told still written q s stands few none gave =
       inl (record {
         status_is = s;
         out_stands = λ same. cc;
@@ -132,15 +132,19 @@ module _ (a b : Around) (e : Ending) (form : Type 0) (yes_form : form → e ≢ 
         text = stands ∙ sym (append_nil (spelled (answers_in told)));
         gave = λ begun. gave refl (begun refl);
       })
-  ends_over ending.OutFault told still written q s stands none gave =
+  ends_over ending.OutFault told still written q s stands few none gave =
       inr (inl (record {
         status_is = s;
         moves_stand = λ same. cc;
         all_told = stands.0;
-        text = record { back = stands.1.back; whole = append_nil (spelled (answers_in told)) ∙ stands.1.whole };
+        text = record {
+          back = stands.1.back;
+          whole = append_nil (spelled (answers_in told)) ∙ stands.1.whole;
+          few = (let n = stands.1.few in omega (arith, n));
+        };
       }))
-  ends_over ending.MovesFault told still written q s stands none gave = inr (inr (record { status_is = s; out_stands = λ same. cc; text = stands }))
-  ends_over x told still written q s stands none gave = cc
+  ends_over ending.MovesFault told still written q s stands few none gave = inr (inr (record { status_is = s; out_stands = λ same. cc; text = stands; few = few }))
+  ends_over x told still written q s stands few none gave = cc
 
 abbrev sink_of_moves : Left → SinkSeen
 sink_of_moves x = record { took = x.moves; gave = x.gave; faults = x.moves_faults }
@@ -172,12 +176,13 @@ module _ (a b : Around) (e : Ending) (form : Type 0) (yes_form : form → e ≢ 
   o' = record { took = b.took; gave = b.gave; faults = faults }
 
   -- nothing was held back where a read failed
-  module _ (none : e ≡ ending.ReadFault → kept ≡ []) (answers : e ≡ ending.ReadFault → a.gave ≡ a.took → o.gave ≡ o.took) (moves : e ≡ ending.ReadFault → a.beside.gave ≡ a.beside.moves → x.gave ≡ x.moves) where
+  module _ (short : length kept ≤ most_kept) (none : e ≡ ending.ReadFault → kept ≡ []) (answers : e ≡ ending.ReadFault → a.gave ≡ a.took → o.gave ≡ o.took) (moves : e ≡ ending.ReadFault → a.beside.gave ≡ a.beside.moves → x.gave ≡ x.moves) where
     pub ran_closed : Closed o o' (sink_of_moves x) (sink_of_moves b.beside) e kept status → Ran a b form status
     ran_closed (inl s) =
         let c = came a b e form yes_form not_form o.took kept x h status in
         ran_some a b e form yes_form not_form o.took kept x h status (moves_same x b.beside p f s.moves_same) (ap (λ (k : SinkSeen). k.took) s.out_same)
         (ends_over a b e form yes_form not_form o.took kept x h status e c.told c.still c.written s.over s.status_is c.stands
+        (subst (λ (t : Text). length t ≤ most_kept) c.keeps.text_is short)
         (λ q. none_still c.still (sym c.keeps.text_is ∙ none q))
         (λ q begun. record {
           answers = ap (λ (k : SinkSeen). k.gave) s.out_same ∙ answers q begun.answers ∙ sym (ap (λ (k : SinkSeen). k.took) s.out_same);
@@ -186,7 +191,7 @@ module _ (a b : Around) (e : Ending) (form : Type 0) (yes_form : form → e ≢ 
     ran_closed (inr (inl d)) =
         let c = came a b e form yes_form not_form o.took kept x h status in
         ran_some a b e form yes_form not_form o.took kept x h status (moves_dropped x b.beside p f o o' e status d) (ap (λ (k : SinkSeen). k.took) d.out_same)
-        (inr (inr (record { status_is = d.status_is; out_stands = out_stands e d.goes; text = stands_whole e c.told c.still c.written d.goes c.stands })))
+        (inr (inr (record { status_is = d.status_is; out_stands = out_stands e d.goes; text = stands_whole e c.told c.still c.written d.goes c.stands; few = subst (λ (t : Text). length t ≤ most_kept) c.keeps.text_is short })))
     ran_closed (inr (inr (inl t))) =
         let m = moves_gave x b.beside p f t.moves in
         ran_all a b e form yes_form not_form o.took kept x h status m t.goes t.moves.gave_all (kept ++ last_text e) t.wrote
@@ -210,6 +215,8 @@ module _ (a b : Around) (e : Ending) (form : Type 0) (yes_form : form → e ≢ 
             back = t.wrote.back;
             whole = sym (text_all a b e form yes_form not_form o.took kept x h status m t.goes t.moves.gave_all)
                 ∙ ap (λ (ts : Text). c.written ++ ts) t.wrote.whole ∙ sym (append_assoc c.written t.wrote.front t.wrote.back);
+            few = (let all = ap length t.wrote.whole in
+                omega (arith, all, short, length-append kept (last_text e), length-append t.wrote.front t.wrote.back));
           };
         })))
 

@@ -9,7 +9,7 @@ use Rattle.mm_io.specs.{FitsLine, with_line_feed, text_of_lines, HasLine, IsLong
 use Rattle.mm_io.proofs.{filled_none}
 use Rattle.mm_dispatch.specs.{Scene, is_machine}
 use Rattle.mm_run.specs.{Stage, Running, HasNoted, Follows, log_of, Ending, reading_of, BreaksLine, DecidedLine, HoldMovesOf, IsNext, TornText}
-use Rattle.mm_run.specs.{ClosesRun, BreaksOff, TakesMemory, KeepsAnswers, IsMisplaced, WentOn, CameToEnd, SettlesRun, StandsAt, InputEndsAt, outside}
+use Rattle.mm_run.specs.{ClosesRun, BreaksOff, TakesMemory, KeepsAnswers, IsMisplaced, WentOn, CameToEnd, SettlesRun, StandsAt, InputEndsAt, most_kept, outside}
 use Rattle.mm_run.specs.{stand}
 use Rattle.mm_run.specs.declared.endings.Ending.TheVariants as ending
 use Rattle.mm_script.specs.{IsLine as IsLineFor}
@@ -153,8 +153,8 @@ module _ (a t : Option Text) (held : Text) (n : ℕ) (w z : Stage) (h : Follows 
     }
 
     -- they were, and the answers could not all be written
-    pub came_torn : (t' : Option Text) → TornText t t' kept → CameToEnd (outside a t kept) (outside a t' kept') (stand held n w) ending.OutFault z
-    came_torn t' u ks k = record {
+    pub came_torn : length kept ≤ most_kept → (t' : Option Text) → TornText t t' kept → CameToEnd (outside a t kept) (outside a t' kept') (stand held n w) ending.OutFault z
+    came_torn short t' u ks k = record {
       decided = record {
         lines = [];
         taken = [];
@@ -173,7 +173,14 @@ module _ (a t : Option Text) (held : Text) (n : ℕ) (w z : Stage) (h : Follows 
       split = refl;
       written = u.front;
       wrote = u.wrote;
-      stands = (refl, record { back = u.back; whole = sym k.text_is ∙ u.whole });
+      stands = (
+        refl,
+        record {
+          back = u.back;
+          whole = sym k.text_is ∙ u.whole;
+          few = (let all = ap length u.whole in omega (arith, all, short, length-append u.front u.back));
+        },
+      );
       gave = gave_kept ks k;
       keeps = none_kept;
       grows = h.gave.grows;

@@ -8,7 +8,7 @@ use Rattle.mm_types.proofs.{append_nil, took_then, appended_none, appended_then}
 use Rattle.mm_io.specs.{with_line_feed, text_of_lines, Filled}
 use Rattle.mm_io.proofs.{filled_none}
 use Rattle.mm_run.specs.{Ending, Outset, Stage, NotBegun, Running, Follows, with_flush, log_of, replay_of, DecidedLine, IsNext, AreAnswered}
-use Rattle.mm_run.specs.{HoldMovesOf, last_stage, texts_of, answers_in, IsFront, ClosesRun, Left, IsLogLeft, TakesMemory, KeepsAnswers, WentOn}
+use Rattle.mm_run.specs.{HoldMovesOf, last_stage, texts_of, answers_in, IsFrontWithin, most_kept, ClosesRun, Left, IsLogLeft, TakesMemory, KeepsAnswers, WentOn}
 use Rattle.mm_run.specs.{CameToEnd, Comes, SettlesRun, StandsAt, Outside, RunStand, outside, stand}
 use Rattle.mm_run.specs.declared.endings.Ending.TheVariants as ending
 use Rattle.mm_dispatch.specs.{Scene}
@@ -181,10 +181,11 @@ split_then ks ls ms told still told' still' e f =
 whole_more : (xs ys : List DecidedLine) (written : Text) → written ≡ spelled (answers_in ys) → spelled (answers_in xs) ++ written ≡ spelled (answers_in (xs ++ ys))
 whole_more xs ys written e = ap (λ t. spelled (answers_in xs) ++ t) e ∙ sym (spelled_lines xs ys)
 
-front_more : (xs ys : List DecidedLine) (written : Text) → IsFront written (spelled (answers_in ys)) → IsFront (spelled (answers_in xs) ++ written) (spelled (answers_in (xs ++ ys)))
+front_more : (xs ys : List DecidedLine) (written : Text) → IsFrontWithin most_kept written (spelled (answers_in ys)) → IsFrontWithin most_kept (spelled (answers_in xs) ++ written) (spelled (answers_in (xs ++ ys)))
 front_more xs ys written f = record {
   back = f.back;
   whole = spelled_lines xs ys ∙ ap (λ t. spelled (answers_in xs) ++ t) f.whole ∙ sym (append_assoc (spelled (answers_in xs)) written f.back);
+  few = f.few;
 }
 
 stands_more : (e : Ending) (xs ys still : List DecidedLine) (written : Text) → StandsAt e ys still written → StandsAt e (xs ++ ys) still (spelled (answers_in xs) ++ written)

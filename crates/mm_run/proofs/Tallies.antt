@@ -4,7 +4,7 @@ use Rattle.std.specs.Prelude.{Result, Ok, Err, MatchResult}
 use Rattle.mm_types.specs.{Appended, Rose, Text, Event}
 use Rattle.mm_types.proofs.{append_nil, appended_none, rose_later}
 use Rattle.mm_run.specs.{Tally, Ending, Stage, Follows, DecidedLine, last_stage, answers_in, moves_of, TornText, status_of, Left, StageLeaves}
-use Rattle.mm_run.specs.{FaultCounts, IsBlamed, IsAccounted, Around, GaveAll, begun_at, AreDecided, ClosesEvents, HeadIsMuted, BulkStops, BulkEnds, BulkRan}
+use Rattle.mm_run.specs.{FaultCounts, IsBlamed, IsAccounted, Around, GaveAll, begun_at, AreDecided, ClosesEvents, HeadIsMuted, HeadWantsMemory, BulkStops, BulkEnds, BulkRan}
 use Rattle.mm_run.specs.{events_in, bulk_text, four_lines, Stopped, Tallied, BatchRan}
 use Rattle.mm_run.specs.declared.endings.Ending.TheVariants as ending
 use Rattle.mm_run.proofs.Stories.{follows_here}
@@ -17,8 +17,9 @@ use Rattle.mm_run.proofs.Events.{follows_done}
 
 module _ (a b : Around) (events : List Event) (status : ℕ) where
   ran_by : (lines : List DecidedLine) (left : List Event) (e : Ending) (end : Stage) (written : Text) → events ≡ events_in lines ++ left → AreDecided (begun_at a.beside) lines → BulkStops e left → ClosesEvents e (last_stage (begun_at a.beside) lines) end → (e ≡ ending.MovesFault → HeadIsMuted left (last_stage (begun_at a.beside) lines) end)
+      → (e ≡ ending.NoMemory → HeadWantsMemory left (last_stage (begun_at a.beside) lines) end)
       → StageLeaves end b.beside → Appended a.took b.took written → BulkEnds b status e (bulk_text (answers_in lines) end) written → BulkRan a b events status
-  ran_by lines left e end written are decided stops closes muted leaves wrote ends = record {
+  ran_by lines left e end written are decided stops closes muted wants leaves wrote ends = record {
     lines = lines;
     left = left;
     events_are = are;
@@ -31,6 +32,7 @@ module _ (a b : Around) (events : List Event) (status : ℕ) where
     ends = ends;
     closes = closes;
     muted = muted;
+    wants = wants;
     leaves = leaves;
     log = log_left a.beside.moves a.beside.moves_faults (moves_of lines) e (last_stage (begun_at a.beside) lines) end b.beside leaves
         (log_closed (begun_at a.beside) (last_stage (begun_at a.beside) lines) (moves_of lines) (events_logged (begun_at a.beside) lines decided) refl refl e end closes);
@@ -49,7 +51,7 @@ module _ (a b : Around) (events : List Event) (status : ℕ) where
     all_by written wrote ends =
         ran_by h.handled.lines [] ending.Done end written (sym h.handled.events_are ∙ sym (append_nil (events_in h.handled.lines))) h.handled.decided refl
         (subst (λ (x : Stage). Follows (last_stage (begun_at a.beside) h.handled.lines) x) (sym h.handled.end_is) (follows_here (last_stage (begun_at a.beside) h.handled.lines)))
-        (λ q. cc) leaves wrote ends
+        (λ q. cc) (λ q. cc) leaves wrote ends
 
     ran_told : status ≡ 0 → Appended a.took b.took (four_lines t.lines t.ok t.none t.charge t.limit) → GaveAll b → BulkRan a b events status
     ran_told q w gave = all_by (four_lines t.lines t.ok t.none t.charge t.limit) w (inl (q, refl, text_is, gave))
@@ -63,7 +65,7 @@ module _ (a b : Around) (events : List Event) (status : ℕ) where
   -- some were not
   ran_stopped : (e : Ending) (end : Stage) → Stopped (begun_at a.beside) events e end → StageLeaves end b.beside → (status ≡ 6) ⊎ (status ≡ status_of e) → b.took ≡ a.took → BulkRan a b events status
   ran_stopped e end h leaves q still =
-      ran_by h.lines h.left e end [] h.events_are h.decided h.stops h.closes h.muted leaves (subst (λ (x : Option Text). Appended a.took x []) (sym still) (appended_none a.took))
+      ran_by h.lines h.left e end [] h.events_are h.decided h.stops h.closes h.muted h.wants leaves (subst (λ (x : Option Text). Appended a.took x []) (sym still) (appended_none a.took))
       (inr (inr (either q, refl)))
     where
       not_done : (k : Ending) → BulkStops k h.left → 0 < length h.left → k ≢ ending.Done

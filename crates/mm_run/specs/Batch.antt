@@ -16,7 +16,7 @@ use Rattle.mm_run.specs.Ends.{Left, StageLeaves}
 use Rattle.mm_run.specs.Faults.{OpenFailed}
 use Rattle.mm_run.specs.Ran.{begun_at}
 use Rattle.mm_run.specs.Story.{IsBlamed, fault_counts_with}
-use Rattle.mm_run.specs.Bulk.{AreDecided, ClosesEvents, HeadIsMuted, BulkStops, events_in, begins_ok, is_none, charge_at, limit_at}
+use Rattle.mm_run.specs.Bulk.{AreDecided, ClosesEvents, HeadIsMuted, HeadWantsMemory, BulkStops, events_in, begins_ok, is_none, charge_at, limit_at}
 
 -- An event which does not make a machine.
 pub record IsLaterEvent (event : Event) : Type 0 where
@@ -61,6 +61,7 @@ pub record Stopped (old : Stage) (events : List Event) (e : Ending) (end : Stage
   pub some : 0 < length left
   pub closes : ClosesEvents e (last_stage old lines) end
   pub muted : e ≡ ending.MovesFault → HeadIsMuted left (last_stage old lines) end
+  pub wants : e ≡ ending.NoMemory → HeadWantsMemory left (last_stage old lines) end
 
 -- All events were decided, and these are the four lines' numbers.
 pub record Tallied (old : Stage) (events : List Event) (t : Tally) (end : Stage) : Type 0 where

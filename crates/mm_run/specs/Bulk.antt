@@ -16,7 +16,7 @@ use Rattle.mm_run.specs.Scenes.{Stage, NotBegun, Running, Follows, HasNoted, log
 use Rattle.mm_run.specs.Steps.{IsDecided}
 use Rattle.mm_run.specs.Answered.{DecidedLine, last_stage, answers_in, moves_of, AreFaultless}
 use Rattle.mm_run.specs.Texts.{IsFront, status_of}
-use Rattle.mm_run.specs.Ends.{BreaksOff, StageLeaves}
+use Rattle.mm_run.specs.Ends.{BreaksOff, StageLeaves, TakesMemory}
 use Rattle.mm_run.specs.Ran.{Around, GaveAll, IsRefused, LogRan, EndsHolding, SomeRose, begun_at}
 
 -- ---- the words
@@ -67,6 +67,20 @@ pub record MutesEvent (last end : Stage) : Type 0 where
 abbrev pub HeadIsMuted : List Event → Stage → Stage → Type 0
 HeadIsMuted left last end = Follows last end ⊎
     ((m : MutesEvent last end) × ((rest : List Event) × (left ≡ m.line.event ∷ rest)))
+
+-- An event ran out of memory, which may take some in the world that there is. It is the first of
+-- those that are left.
+pub record WantsEvent (left : List Event) (last end : Stage) : Type 0 where
+  pub event : Event
+  pub rest : List Event
+  pub head : left ≡ event ∷ rest
+  pub takes : TakesMemory last event
+  pub breaks : BreaksOff last end
+
+-- Or there is no machine yet, whose making takes memory.
+abbrev pub HeadWantsMemory : List Event → Stage → Stage → Type 0
+HeadWantsMemory left (NotBegun o) end = Follows (NotBegun o) end
+HeadWantsMemory left (Running s) end = WantsEvent left (Running s) end
 
 -- After the last event nothing happened, but that one ran out of memory, or could not note all its
 -- moves.
@@ -141,6 +155,7 @@ pub record BulkRan (a b : Around) (events : List Event) (status : ℕ) : Type 0 
   -- What happened after the last event, and what the end leaves, as `Ran` has it.
   pub closes : ClosesEvents e (last_stage (begun_at a.beside) lines) end
   pub muted : e ≡ ending.MovesFault → HeadIsMuted left (last_stage (begun_at a.beside) lines) end
+  pub wants : e ≡ ending.NoMemory → HeadWantsMemory left (last_stage (begun_at a.beside) lines) end
   pub leaves : StageLeaves end b.beside
   pub log : LogRan a.beside.moves b.beside.moves a.beside.moves_faults b.beside.moves_faults
       (moves_of lines) e (last_stage (begun_at a.beside) lines) end

@@ -26,7 +26,8 @@ pub use Written.{AnsweredLine, GivesWritten, WriteMarks, keeps_after, no_write_m
 pub use Written.{write_marks_after, write_marks_over}
 pub use Answered.{AreAnswered, AreFaultless, DecidedLine, HoldMovesOf, IsNext, MadeNamed}
 pub use Answered.{answered_lines, answers_in, last_stage, moves_of, texts_of}
-pub use Texts.{IsFront, ToldText, TornText, WroteText, last_text, status_of}
+pub use Texts.{IsFront, IsFrontWithin, ToldText, TornText, WroteText, last_text, most_kept}
+pub use Texts.{status_of}
 pub use Ends.{BreaksAt, BreaksOff, ClosesRun, DeviceLeft, IsLeft, IsLogLeft, Left, StageLeaves}
 pub use Ends.{TakesMemory}
 pub use Story.{CameFrom, CameToEnd, Comes, FaultCounts, InputEndsAt, IsBad, IsBlamed, IsMisplaced}
@@ -35,7 +36,7 @@ pub use Story.{fault_counts_with, outside, stand}
 pub use Ran.{Around, EndsHolding, EndsTelling, GaveAll, LogRan, RanOrRefused, SomeRose, begun_at}
 pub use Script.{EachSays, IsComplete, IsFault, IsScriptOf, IsVerdict}
 pub use Bulk.{AreDecided, BulkEnds, BulkRan, BulkRanOrRefused, BulkStops, ClosesEvents}
-pub use Bulk.{HeadIsMuted, IsBulk, MutesEvent}
+pub use Bulk.{HeadIsMuted, HeadWantsMemory, IsBulk, MutesEvent, WantsEvent}
 pub use Bulk.{IsEventNext, IsNoBulk, begins_ok, below_64, bulk_text, events_in, four_lines, is_none}
 pub use Bulk.{word_value}
 pub use WordForms.{SaysForm}

@@ -4,7 +4,7 @@
 -- It speaks of what stands around a run, before it and after it: the bytes left in the source,
 -- those that both sinks took and gave on, and both devices. What is not told of these has no bytes
 -- (`None`), and nothing is said of it.
-use Rattle.std.specs.Prelude.{◌≡◌, ◌≢◌, ◌⊎◌, ℕ, ◌<◌, ◌≤◌, List, ◌∷◌, ◌++◌, [], length, Option}
+use Rattle.std.specs.Prelude.{◌≡◌, ◌≢◌, ◌⊎◌, ℕ, ◌+◌, ◌<◌, ◌≤◌, List, ◌∷◌, ◌++◌, [], length, Option}
 use Rattle.mm_types.specs.{Took, Appended, Rose, Text, spelled, Move}
 use Rattle.mm_move_rules.specs.{unstarted, AreMoves, spelled_moves, Replays}
 use Rattle.mm_io.specs.{text_of_lines}
@@ -15,7 +15,7 @@ use Rattle.mm_run.specs.declared.endings.Ending.TheVariants as ending
 use Rattle.mm_run.specs.Scenes.{Stage, NotBegun, Running, outset, replay_of}
 use Rattle.mm_run.specs.Answered.{DecidedLine, AreAnswered, HoldMovesOf, last_stage, texts_of, answers_in, moves_of, answered_lines, AreFaultless}
 use Rattle.mm_run.specs.Written.{GivesWritten}
-use Rattle.mm_run.specs.Texts.{IsFront, TornText, status_of, last_text}
+use Rattle.mm_run.specs.Texts.{IsFrontWithin, TornText, status_of, last_text, most_kept}
 use Rattle.mm_run.specs.Story.{SettlesRun, most_lines}
 use Rattle.mm_run.specs.Ends.{Left, StageLeaves, ClosesRun}
 
@@ -49,27 +49,30 @@ pub record TellsAll (a b : Around) (status : ℕ) (e : Ending) (told kept : List
   pub text : written ≡ spelled (answers_in told) ++ last_text e
   pub gave : (e ≡ ending.ReadFault → GaveAll a) → GaveAll b
 
--- With status 5, as the sink of answers failed, a front of all that stands.
+-- With status 5, as the sink of answers failed, a front of all that stands: what is missing is no
+-- longer than the answers that are kept at most and the last text.
 pub record TellsFront (status : ℕ) (e : Ending) (told kept : List DecidedLine) (written : Text)
     : Type 0 where
   pub status_is : status ≡ 5
   pub moves_stand : e ≢ ending.MovesFault
   pub all_told : kept ≡ []
-  pub text : IsFront written (spelled (answers_in told) ++ last_text e)
+  pub text : IsFrontWithin (most_kept + length (last_text e)) written
+      (spelled (answers_in told) ++ last_text e)
 
 -- With status 6, as the sink of moves failed, the answers up to the last flush stand, and no last
--- text.
-pub record TellsSome (status : ℕ) (e : Ending) (told : List DecidedLine) (written : Text)
+-- text: all but those that were kept then.
+pub record TellsSome (status : ℕ) (e : Ending) (told kept : List DecidedLine) (written : Text)
     : Type 0 where
   pub status_is : status ≡ 6
   pub out_stands : e ≢ ending.OutFault
   pub text : written ≡ spelled (answers_in told)
+  pub few : length (spelled (answers_in kept)) ≤ most_kept
 
 abbrev pub EndsTelling : Around → Around → ℕ → Ending → List DecidedLine → List DecidedLine → Text
     → Type 0
 EndsTelling a b status e told kept written =
     TellsAll a b status e told kept written
-    ⊎ (TellsFront status e told kept written ⊎ TellsSome status e told written)
+    ⊎ (TellsFront status e told kept written ⊎ TellsSome status e told kept written)
 
 -- The count of faults of a device rose.
 abbrev pub SomeRose : Left → Left → Type 0

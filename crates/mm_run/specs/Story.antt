@@ -12,7 +12,7 @@ use Rattle.mm_dispatch.specs.{is_machine}
 use Rattle.mm_run.specs.Reading.{reading_of}
 use Rattle.mm_run.specs.Scenes.{Stage, Follows, log_of}
 use Rattle.mm_run.specs.Answered.{DecidedLine, AreAnswered, HoldMovesOf, last_stage, texts_of, answers_in}
-use Rattle.mm_run.specs.Texts.{IsFront}
+use Rattle.mm_run.specs.Texts.{IsFrontWithin, most_kept}
 use Rattle.mm_run.specs.Ends.{Left, StageLeaves, ClosesRun}
 
 -- the most lines of a script
@@ -129,10 +129,11 @@ pub record RunDecided (left left' : Option Text) (x : RunStand) (e : Ending) (en
     pub closes : ClosesRun e (x.n + length lines) front (last_stage x.stage lines) end
 
 -- What stands on the sink of answers once a run has come to this, before the last text: the answers
--- of the told lines, or where a call of the sink failed, a front of them, and then none is kept.
+-- of the told lines, or where a call of the sink failed, a front of them, up to the last that were
+-- kept together, and then none is kept.
 abbrev pub StandsAt : Ending → List DecidedLine → List DecidedLine → Text → Type 0
 StandsAt ending.OutFault told still written =
-    (still ≡ []) × IsFront written (spelled (answers_in told))
+    (still ≡ []) × IsFrontWithin most_kept written (spelled (answers_in told))
 StandsAt _ told still written = written ≡ spelled (answers_in told)
 
 -- The same, with the answers that were told and those that are kept.

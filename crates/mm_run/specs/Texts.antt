@@ -1,6 +1,6 @@
 -- The statuses of a run, and its text.
 -- Profile, "A run".
-use Rattle.std.specs.Prelude.{◌≡◌, ℕ, [], ◌∷◌, ◌++◌, codes, Option, Result, MatchResult}
+use Rattle.std.specs.Prelude.{◌≡◌, ◌≤◌, ℕ, [], ◌∷◌, ◌++◌, length, codes, Option, Result, MatchResult}
 use Rattle.mm_types.specs.{Appended, Text, decimal}
 use Rattle.mm_run.specs.declared.endings.Ending.{Ending}
 use Rattle.mm_run.specs.declared.endings.Ending.TheVariants as ending
@@ -34,6 +34,16 @@ last_text (ending.TooLong line) = codes "too long line " ++ (decimal line ++ 10 
 pub record IsFront (front text : Text) : Type 0 where
   pub back : Text
   pub whole : text ≡ front ++ back
+
+-- the most bytes of answers that are kept
+abbrev pub most_kept : ℕ
+most_kept = 65536
+
+-- These bytes are a front of a text, of which no more than so many are missing.
+pub record IsFrontWithin (most : ℕ) (front text : Text) : Type 0 where
+  pub back : Text
+  pub whole : text ≡ front ++ back
+  pub few : length back ≤ most
 
 -- Of a text a front was written.
 pub record TornText (took took' : Option Text) (text : Text) : Type 0 where

@@ -24,7 +24,8 @@ impl Model for Kept {
 
     ghost view = { λ k. k.bytes.items };
 
-    ghost invariant = { λ k. 65536 ≤ vec_capacity k.bytes };
+    ghost invariant = { λ k.
+        (65536 ≤ vec_capacity k.bytes) × (length k.bytes.items ≤ 65536) };
 }
 
 impl Kept {
@@ -39,6 +40,13 @@ impl Kept {
         ensures { result.now ≡ self.now }
     {
         self.bytes.as_slice()
+    }
+
+    /// No more bytes are kept than have room.
+    pub(crate) fn fits(&self)
+        ensures { length self.now ≤ 65536 }
+    {
+        let _bytes = &self.bytes;
     }
 
     /// Whether one more answer surely has room.
@@ -103,10 +111,12 @@ impl Kept {
     /// Writes the answers, and has the sink give them on. None is kept then.
     pub(crate) fn give_on<O: Sink>(&mut self, out: &mut O) -> Result<(), Failed>
         ensures none { self.new ≡ [] }
+        ensures few { length self.old ≤ 65536 }
         ensures wrote { WroteText result (O.taken out.old) (O.taken out.new) self.old }
         ensures gave { OnOk result (O.given out.new ≡ O.taken out.new) }
         ensures cause { CountsFaults (O.faults out.old) (O.faults out.new) result }
     {
+        self.fits();
         let wrote = write_all(out, self.bytes());
         self.clear();
         match wrote {

@@ -1,4 +1,4 @@
-ghost use Rattle.std.specs.Prelude.{◌≡◌, ◌≢◌, ◌≤◌, ◌+◌, ◌⊎◌, true, ℕ, List, Some, length, ◌++◌};
+ghost use Rattle.std.specs.Prelude.{◌≡◌, ◌≢◌, ◌≤◌, ◌+◌, ◌⊎◌, true, false, ℕ, List, Some, length, ◌++◌};
 ghost use Rattle.mm_types.specs.{decimal};
 ghost use Rattle.mm_io.specs.{CountsFaults};
 ghost use Rattle.mm_run.specs.{IsScriptOf, IsComplete, IsFault, IsRunForm, RanOrRefused, ToldText, last_text, Closed, is_over, IsAccounted, IsBulk};
@@ -85,7 +85,10 @@ fn is_over(ending: Ending) -> bool
 fn close<O: Sink, M: Sink>(moves: &mut M, kept: &Kept, out: &mut O, ending: Ending) -> u8
     ensures closed { Closed (sink_seen O.Sink out.old) (sink_seen O.Sink out.new)
         (sink_seen M.Sink moves.old) (sink_seen M.Sink moves.new) ending kept.now result }
+    ensures few { length kept.now ≤ 65536 }
+    ensures flushed { result ≢ 6 → is_over ending ≡ false → M.given moves.new ≡ M.taken moves.new }
 {
+    kept.fits();
     if is_over(ending) {
         return ending.status();
     }

@@ -14,7 +14,7 @@ returns-in-Err g c =
       ends = record {
         came = record {
           end = NotBegun o;
-          finished = stopped_here (NotBegun o) (script_of c.args.seed c.args.count) ending.NoMemory (inl refl) (omega arith);
+          finished = stopped_here o (script_of c.args.seed c.args.count) ending.NoMemory (inl refl) (omega arith);
           leaves = log_left_at o.log _ refl refl refl;
         };
         faults = λ s k. (omega arith, refl);
@@ -50,7 +50,7 @@ returns g c =
       ends = record {
         came = record {
           end = NotBegun o;
-          finished = stopped_here (NotBegun o) (script_of c.args.seed c.args.count) c.in-Err-open_devices.ending c.in-Err-open_devices.ensures.ends (omega arith);
+          finished = stopped_here o (script_of c.args.seed c.args.count) c.in-Err-open_devices.ending c.in-Err-open_devices.ensures.ends (omega arith);
           leaves = log_left_at o.log _ refl refl refl;
         };
         faults = λ s k. blamed_open c.in-Err-open_devices.ending _ _ c.in-Err-open_devices.ensures.ends c.in-Err-open_devices.ensures.blame;

@@ -36,7 +36,7 @@ returns-in-Err-clause-came g c = λ p f later later'.
     let sink = sym (lent c.moves-1.given.1 c.new-3.ensures.same_reference refl (c.finish-in-Err-2.ensures.same_reference ∙ ap (λ x. x.2.sink.ghost_name) err) (c.finish-in-Err-2.ensures.sink ∙ ap (λ x. x.2.sink.now) err ∙ c.new-3.ensures.sink)) in
     record {
       end = NotBegun o;
-      finished = stopped_here (NotBegun o) (line.Machine c.args.machine ∷ c.args.events.now) ending.NoMemory (inl refl) (omega arith);
+      finished = stopped_here o (line.Machine c.args.machine ∷ c.args.events.now) ending.NoMemory (inl refl) (omega arith);
       leaves = log_left_at o.log _ (sym (ap g.M.Sink.taken sink)) (sym (ap g.M.Sink.given sink)) (sym (ap g.M.Sink.faults sink));
     }
 

@@ -37,7 +37,7 @@ returns-in-Err-give_on-clause-steps g c = λ input held n few short.
     let gave = c.give_on in
     record {
       came = came_torn input.left _ held n (Running (scene c.args.world.now)) (Running (scene f.new.self)) follows few short c.args.kept.now gave.new.self gave.ensures.none (ap (λ l. l.given) c.in-Ok.ensures.flushed.all)
-          (g.O.Sink.taken gave.new.out) c.in-Err-give_on.ensures.wrote;
+          gave.ensures.few (g.O.Sink.taken gave.new.out) c.in-Err-give_on.ensures.wrote;
       faults = (c.in-Err-give_on.ensures.cause.failed, λ i. fault_counts_with input.faults (g.O.Sink.faults gave.new.out) (c.in-Ok.ensures.flushed.all i).faults);
       idle = omega arith;
       form = λ q. cc;
