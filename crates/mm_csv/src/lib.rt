@@ -2,5 +2,7 @@
 #![tactic(auto)]
 
 mod fields;
+mod laws;
 
 pub use fields::{put_field, put_head_left, put_next};
+pub use laws::rows_are_read_again;
