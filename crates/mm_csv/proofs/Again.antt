@@ -4,8 +4,8 @@ use Rattle.std.specs.Prelude.{◌==◌, ◌||◌, if◌then◌else◌}
 use Rattle.std.proofs.lemmas.Bool.{eqb-true}
 use Rattle.mm_types.specs.{Text}
 use Rattle.mm_types.proofs.{append_nil}
-use Rattle.mm_csv.specs.{csv_field, csv_text, doubled, fields_behind, is_quoted, is_special, AreSome, rows_from, rows_of}
-use Rattle.mm_csv.specs.Reading.{First, Plain, Quoted, Closing}
+use Rattle.mm_csv.specs.{csv_field, csv_text, doubled, fields_behind, is_quoted, is_special, AreSome, rows_from, rows_of, First, Plain, Quoted}
+use Rattle.mm_csv.specs.{Closing}
 
 neither : (a b : Bool) → (a || b) ≡ false → (a ≡ false) × (b ≡ false)
 neither true b e = absurd (cc)

@@ -2,4 +2,5 @@ pub mod Rows
 pub mod Reading
 pub use Rows.{csv_field, csv_next, csv_nexts, csv_row, csv_text, doubled, fields_behind, head_left}
 pub use Rows.{is_quoted, is_special}
-pub use Reading.{AreSome, Place, behind_quote, is_within, quote_in, rows_from, rows_of}
+pub use Reading.{AreSome, Closing, First, Place, Plain, Quoted, behind_quote, is_within, quote_in}
+pub use Reading.{rows_from, rows_of}
