@@ -21,10 +21,9 @@ from typing import NamedTuple, Optional
 TOP = Path(__file__).resolve().parent.parent
 # The quick ones first.
 CHECKS = """
-faces prose rows words examples windows names tries hostile outside drawn show traces page documents
+faces prose rows words examples windows names tries hostile outside drawn show traces page python
+wine web documents
 """.split()
-# Checks of parts that need what Debian's packages or the network bring; run where they are there.
-FURTHER = "python wine web".split()
 # Checks that take their programs by place.
 BY_PLACE = {"page": ("mmsim", "mmshow"), "traces": ("mmsim", "mmlog", "mmshow")}
 MOST_SECONDS = 3600

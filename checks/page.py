@@ -26,7 +26,7 @@ import tempfile
 from dataclasses import dataclass, field
 
 TOP = os.path.abspath(os.path.join(os.path.dirname(os.path.abspath(__file__)), ".."))
-sys.path[:0] = [os.path.join(TOP, "checks"), os.path.join(TOP, "checks", "reference")]
+sys.path[:0] = [os.path.join(TOP, "checks", "reference"), os.path.join(TOP, "checks")]
 sys.dont_write_bytecode = True
 import page_hands  # noqa: E402
 import show  # noqa: E402

@@ -38,7 +38,7 @@ VOCABULARY = set(
     """
 sh text rt antt clang git valgrind callgrind chromium python3 bash sed awk diff paste cmp sort wc
 grep tee
-black mypy apt realloc malloc alloc_zeroed ptr copy_nonoverlapping swap_remove position subst
+black mypy apt select wine32 rlib real32.exe real64.exe realloc malloc alloc_zeroed ptr copy_nonoverlapping swap_remove position subst
 Ok Err None Some Option Result Vec Box String Debug Case Error core std_alloc alloc
 true false match let return loop while impl for fn type mut pub use mod where self requires ensures
 ghost unfoldable data record abbrev specs proofs src All Unit Bool Nat IfOk the_type nat_le nat_lt
@@ -47,7 +47,7 @@ zeroed free standby modified active transition hard soft zero writes reused lru 
 machine process exit file protect query create createfile open close flush exec begin resume
 io trim age writer zeroer fail charge counts grow watch resetwatch stack probe access thread unbind
 call busy full fault pending ok error raise none dead slot block frame line yes moves
-run bulk check tell state key faults sums html lines talk help version small large
+run bulk check tell events synchronous fifo clock state key faults sums html lines talk help version small large
 fromkeys dict try_get_matches_from named NAME regional tactic ap cc omega rw else unsafe args stdin
 stdout resize
 with_capacity circular_buffer from_residual matches ret heap maximum Lcg64Xsh32 __try __chkstk
@@ -85,7 +85,7 @@ class Sources:
     def read(self, path: str) -> None:
         """Notes what a file declares."""
         crate = re.match(r"crates/(\w+)/(?:src|specs|proofs|must-fail)/(.*)", path)
-        is_tool = re.match(r"(tools|checks|web)/|\.ci/", path) and not path.endswith(".png")
+        is_tool = re.match(r"(tools|checks|web|python)/|\.ci/", path) and not path.endswith((".png", ".xz", ".wasm"))
         if crate:
             read = text(path)
             names = self.declared[crate[1]]

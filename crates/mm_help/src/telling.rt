@@ -43,10 +43,10 @@ pub fn described<'a>(alloc: Global, name: &'a str, about: &'a str, after: &'a st
 /// Prints what `clap` has to say of the words: help or the version on standard output, a mistake on
 /// standard error, nothing where it takes them. Answers the status: 0, 2 after a mistake, or 5 where
 /// the text could not be written.
-pub fn tell<R: Print + Eprint>(
+pub fn tell<'a, R: Print + Eprint>(
     rt: &R,
-    command: Command<'_>,
-    words: &[String],
+    command: Command<'a>,
+    words: &'a [String],
 ) -> Result<u8, NoMemory> {
     let error = match command.try_get_matches_from(words) {
         Ok(_) => return Ok(0),
