@@ -13,9 +13,9 @@ It builds the page (tools/web/build; what was built of the same sources is taken
                        share and open again; stop; 20,000 lines without a long gap; its policy; and
                        that nothing is written to the console
 
-FOLDER has the native programs (crates/NAME/out/NAME where it is not given). With --tried the page is
-built of `rt try`'s modules. Where a package is missing and cannot be installed, what needs it is left
-out, and a line says so.
+FOLDER has the native programs (crates/NAME/out/NAME where it is not given). With --tried the page
+is built of `rt try`'s modules. Where a package is missing and cannot be installed, what needs it is
+left out, and a line says so.
 """
 
 import argparse
@@ -37,9 +37,10 @@ sys.dont_write_bytecode = True
 
 import web_page  # noqa: E402
 
+BUILTINS = "/usr/lib/llvm-*/lib/clang/*/lib/wasi/libclang_rt.builtins-wasm32.a"
 NEEDED = {
     "/usr/lib/wasm32-wasi/libc.a": "wasi-libc",
-    "/usr/lib/llvm-*/lib/clang/*/lib/wasi/libclang_rt.builtins-wasm32.a": "libclang-rt-19-dev-wasm32",
+    BUILTINS: "libclang-rt-19-dev-wasm32",
     "/usr/share/javascript/codemirror/codemirror.js": "libjs-codemirror",
 }
 SHORT = 900  # bytes; scripts up to here are cut and spoiled

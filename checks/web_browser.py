@@ -1,4 +1,4 @@
-"""A headless Chromium over its debugger's pipe, for checks/web.py: no package beside chromium is needed."""
+"""A headless Chromium over its debugger's pipe, for checks/web.py: only chromium is needed."""
 
 import base64
 import json

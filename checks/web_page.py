@@ -1,6 +1,6 @@
 """The page of the programs, in a headless Chromium: the part of checks/web.py that needs a browser.
 
-Each check gives the number of things that it compared, and raises Trouble, or tells of what differs.
+Each check counts what it compared, tells of what differs, and raises Trouble where nothing comes.
 """
 
 import json
@@ -73,10 +73,7 @@ class Checks:
         for it in page.js("data.examples.map(({ name, script }) => ({ name, script }))"):
             name, script = it["name"], it["script"]
             wanted = self.natively(script)
-            got = page.js(
-                f"first.ask('run', {{ script: data.examples.find((it) => it.name === {json.dumps(name)}).script, wantsPage: true }})"
-                ".then((said) => first.ask('files').then((files) => ({ ...said, ...files })))"
-            )
+            got = page.js(RUN_EXAMPLE % json.dumps(name))
             for part in ("plain", "answers", "log", "page"):
                 self.same(f"{name}: {part}", got[part], wanted[part])
             self.names(page, name, wanted)
@@ -108,7 +105,7 @@ class Checks:
                 self.holds(f"{name}: {answer} is {meant}", f"{answer} [{meant}]" in wanted["tell"])
 
     def spaces(self, page: Page) -> None:
-        """The address spaces and the charge behind a line, asked natively at each base that is shown."""
+        """The address spaces and the charge behind a line, asked natively at each base shown."""
         for name in ("lab", "under-pressure", "shared-section", "stack-grows"):
             self.after(page, f"putExample({json.dumps(name)})")
             plain = page.js("first.ask('files').then(({ plain }) => plain)").splitlines()
@@ -139,7 +136,7 @@ class Checks:
             page, "putText('machine 64 64 4 0\\nprocess 0 32\\n\\nraed 1 0x10000 4\\ncharge\\n')"
         )
         reason = "no such word 'raed'; is 'read' meant?"
-        row = "[...document.querySelectorAll('#answers .CodeMirror-line')].map((it) => it.textContent)[3]"
+        row = "[...document.querySelectorAll('#answers .CodeMirror-line')][3].textContent"
         self.holds("a mistake at its line", reason in page.js(row))
         self.holds("a mistake below", f"line 4: {reason}" in page.js("element('told').textContent"))
         sign = "!!editor.script.lineInfo(3).gutterMarkers?.signs"
@@ -195,19 +192,16 @@ class Checks:
             "its moves in words",
             "hard fault" in awaited(page, "element('moves').textContent", "hard fault"),
         )
-        frame = "document.querySelector('iframe').contentWindow"
-        page.js(
-            f"dispatchEvent(new MessageEvent('message', {{ data: {{ melzudek: 'chosen', line: 12 }}, source: {frame} }}))"
-        )
+        page.wait("performance.now() - document.querySelector('iframe').dataset.told > 400")
+        page.js(CHOSEN % (12, "document.querySelector('iframe').contentWindow"))
         self.same("chosen right", page.js("editor.line()"), 22)
-        page.js(
-            "dispatchEvent(new MessageEvent('message', { data: { melzudek: 'chosen', line: 3 }, source: window }))"
-        )
+        page.js(CHOSEN % (3, "window"))
         self.same("chosen by another window", page.js("editor.line()"), 22)
 
     def share(self, page: Page) -> None:
         """Share puts the script into the address; the address opens it again."""
-        script = "machine 16 8 2 0\nprocess 0 8  # \u00e4\nVirtualAlloc(1, 0, 4K, MEM_COMMIT, PAGE_READONLY)\n"
+        script = "machine 16 8 2 0\nprocess 0 8  # \u00e4\n"
+        script += "VirtualAlloc(1, 0, 4K, MEM_COMMIT, PAGE_READONLY)\n"
         self.after(page, f"putText({json.dumps(script)})")
         page.js("element('share').onclick()")
         page.wait("location.hash.startsWith('#script=')")
@@ -310,8 +304,7 @@ class Checks:
         try:
             refused = "fetch('https://example.org/').then(() => 'fetched', () => 'refused')"
             self.same("a fetch", page.js(refused), "refused")
-            image = "new Promise((end) => { const it = new Image(); it.onload = () => end('loaded'); it.onerror = () => end('refused'); it.src = 'https://example.org/a.png'; })"
-            self.same("an image", page.js(image), "refused")
+            self.same("an image", page.js(LOAD_IMAGE), "refused")
             said = json.dumps(page.events)
             self.holds(
                 "its policy refuses it", "Content Security Policy" in said and "default-src" in said
@@ -342,6 +335,19 @@ class Checks:
                 page.close()
 
 
+RUN_EXAMPLE = (
+    "(async () => { const { script } = data.examples.find((it) => it.name === %s);"
+    " const said = await first.ask('run', { script, wantsPage: true });"
+    " return { ...said, ...(await first.ask('files')) }; })()"
+)
+CHOSEN = (
+    "dispatchEvent(new MessageEvent('message',"
+    " { data: { melzudek: 'chosen', line: %d }, source: %s }))"
+)
+LOAD_IMAGE = (
+    "new Promise((end) => { const it = new Image(); it.onload = () => end('loaded');"
+    " it.onerror = () => end('refused'); it.src = 'https://example.org/a.png'; })"
+)
 CATCH_SAVED = (
     "globalThis.saved = {}, URL.createObjectURL = (blob) => (globalThis.blob = blob, 'blob:none'),"
     " HTMLAnchorElement.prototype.click = function () { const name = this.download;"
@@ -362,7 +368,7 @@ ASK_SECOND = (
 )
 WATCH_GAPS = (
     "globalThis.gaps ??= (() => { const list = [];"
-    " new PerformanceObserver((seen) => seen.getEntries().forEach(({ duration }) => list.push(duration)))"
+    " new PerformanceObserver((seen) => list.push(...seen.getEntries().map((it) => it.duration)))"
     ".observe({ entryTypes: ['longtask'] }); return list; })(), 1"
 )
 

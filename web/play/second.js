@@ -89,6 +89,7 @@ function makeSecond({ runs, section, current, choose, parted }) {
       try {
         said = await runs.ask('compare', { machine: machine() });
         said.answers = linesOf(said.answers);
+        if (section.hidden) break;
         showParting();
         drawLines();
         showGained();
