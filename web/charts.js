@@ -1,210 +1,183 @@
 // Charts over the lines, one above the other.
 // One entry: makeCharts(page). A chart is a track: its height and how it is drawn; all share the
-// axis of the lines that are seen.
-const LEFT = 150;
-const BOLD = 'bold 13px ' + FONT;
-const DASHED = [6, 4]; // the most that there can be
-const DOTTED = [2, 3]; // the least
+// axis of the lines that are seen. What hangs on the chosen line is drawn on a canvas of its own
+// above, so that a step to another line draws no chart anew.
+const WIDE_LEFT = 150; // for titles; where the page is narrow they stand above the tracks
+const NARROW = 640;
+const LEAST_WIDTH = 60; // below it nothing is drawn
+const HEADING = 16; // the height of a title above its track
 const GAP = 4; // between tracks
-const mostOf = (values) => values.reduce((a, b) => Math.max(a, b), 0);
 
-// The numbers over the lines: the title, the colour, the values, the value at the top, the most
-// after a line; of some the least, of some dots.
-function describeNumbers({ machine, processes, count }, { numbers, charges }) {
-  const { allSlots, slots, requests, committed } = numbers;
-  const inUse = allSlots.map((all, line) => all - slots[line]);
-  // twice the depth and two page frames are never committed
-  const limit = (line) => machine.frames + allSlots[line] - 2 * machine.depth - 2;
-  const commitTitle = charges.length ? 'Committed, \u25cf charge' : 'Committed pages';
-  const largest = mostOf([1, ...Object.values(processes).map(({ sizes }) => mostOf(sizes))]);
-  const sets = Object.values(processes).map(({ pid, min, max, sizes }) => {
-    const scale = clamp(max, largest, 2 * largest);
-    return ['Working set ' + pid, '--state-4', sizes, scale, () => max, min];
-  });
-  return [
-    ...sets,
-    ['Paging-file slots', '--state-2', inUse, allSlots[count], (line) => allSlots[line]],
-    ['Requests in flight', '--state-5', requests, machine.depth, () => machine.depth],
-    [commitTitle, '--accent', committed, Math.max(1, limit(count)), limit, undefined, charges],
-  ].filter(([, , , scale]) => scale);
-}
-
-// The axis: which line stands where, from LEFT to the right.
-function makeAxis(first, last, right) {
+// The axis: which line stands where, from left to right.
+function makeAxis(first, last, left, right) {
   const count = last - first + 1;
-  const column = (right - LEFT) / count;
-  const x = (line) => LEFT + (line - first) * column;
+  const column = (right - left) / count;
+  const x = (line) => left + (line - first) * column;
   const middle = (line) => x(line + 0.5);
   const has = (line) => line >= first && line <= last;
-  const isInside = (left) => left >= LEFT && left <= right;
-  const lineAt = (left) => clamp(first + Math.floor((left - LEFT) / column), first, last);
+  const inside = (place) => clamp(place, left, right);
+  const isInside = (place) => place >= left && place <= right;
+  const lineAt = (place) => clamp(first + Math.floor((place - left) / column), first, last);
   // The lines; where they are narrower than a pixel the pixels, each with its lines.
   function columns() {
-    const most = Math.min(count, Math.floor(right - LEFT));
+    const most = Math.min(count, Math.floor(right - left));
     const line = (at) => first + Math.floor((at * count) / most);
-    const edge = (at) => LEFT + (at * (right - LEFT)) / most;
+    const edge = (at) => left + (at * (right - left)) / most;
     return Array.from({ length: most }, (_, at) => {
       return { from: edge(at), to: edge(at + 1), first: line(at), last: line(at + 1) - 1 };
     });
   }
-  return { first, last, right, count, column, columns, x, middle, has, isInside, lineAt };
+  const ways = { columns, x, middle, has, inside, isInside, lineAt };
+  return { first, last, left, right, isNarrow: left < WIDE_LEFT, count, column, ...ways };
+}
+
+// The sheet that tracks are drawn on.
+class Sheet {
+  begin(pen, axis) {
+    Object.assign(this, { pen, axis, heading: 0, parts: [] });
+  }
+  // Draws something anew for each chosen line.
+  later(draw) {
+    this.parts.push(draw);
+  }
+  // The title at the left, a value at the right; one that is a function hangs on the chosen line.
+  label(top, title, value = '') {
+    const { pen, axis, heading } = this;
+    const { left, right, isNarrow } = axis;
+    const look = { tint: '--soft', align: isNarrow ? 'right' : 'left' };
+    const place = isNarrow ? [right, heading] : [right + 8, top];
+    const write = (on, text) => on.text(text, ...place, look);
+    if (isNarrow) pen.text(title, left, heading);
+    else pen.text(title, left - 10, top, { align: 'right' });
+    if (typeof value === 'function') this.later((above) => write(above, value()));
+    else write(pen, value);
+  }
+  // A word with its colour, below a title.
+  key(top, word, tint, value) {
+    const { pen, axis } = this;
+    pen.text(word, axis.left - 26, top, { tint: '--soft', align: 'right' });
+    pen.box(tint, axis.left - 21, top - 5, 11, 10);
+    if (value) this.label(top, '', value);
+  }
+  rule(top, tint = '--rule', dash = []) {
+    const level = Math.round(top) + 0.5;
+    this.pen.path(tint, [this.axis.left, level, this.axis.right, level], 1, dash);
+  }
+  // A title of a chart of rows, whose names stand where other charts have their titles.
+  side(top, high, text) {
+    const look = { align: 'center', turn: -Math.PI / 2 };
+    if (this.axis.isNarrow) this.label(top, text);
+    else if (high < 60) this.pen.text(text, 4, top + 8, { font: SMALL });
+    else this.pen.text(text, 14, top + Math.min(high, 400) / 2, look);
+  }
 }
 
 function makeCharts(page) {
-  const { data, survey, view } = page;
+  const { data, survey, view, space } = page;
   const { count, frames, processes } = data;
-  const plot = element('plot');
-  const overview = element('overview');
-  const frameChart = makeFrameChart(page);
+  const [plot, marks, overview] = ['plot', 'marks', 'overview'].map(element);
+  const sheet = new Sheet();
+  const [frameChart, stripChart] = [makeFrameChart(page), makeStripChart(page)];
+  const tracks = makeTracks(page, sheet);
+  const { frameAt, paints } = frameChart;
+  const { pageAt } = stripChart;
+  const charts = { draw, mark, show, frameAt, pageAt, paints, axis: null, whole: null };
   // for numbers at the right
   const margin = frames.length + survey.numbers.allSlots[count] < 1000 ? 84 : 126;
   const numberHeight = processes.length > 7 ? 26 : 40;
-  const charts = { draw, frameAt: frameChart.frameAt, paints: frameChart.paints };
-  let [pen, axis, whole] = [];
+  let [drawn, size] = ['', null];
 
-  function label(top, title, value = '') {
-    pen.text(title, LEFT - 10, top, { align: 'right' });
-    pen.text(value, axis.right + 8, top, { tint: '--soft' });
-  }
-  function rule(top, tint = '--rule', dash = []) {
-    const level = Math.round(top) + 0.5;
-    pen.path(tint, [LEFT, level, axis.right, level], 1, dash);
-  }
-
-  // ---- the lines of the script where there is room, else their numbers
-  function drawTexts(top, high) {
-    const [turn, size, shift] = axis.column < 20 ? [1.2, 10.5, 3] : [0.72, 12, 6];
-    for (const { number, text, answer, isOk } of data.lines.slice(axis.first, axis.last + 1)) {
-      const isChosen = number === view.line;
-      const all = isOk ? text : `${text} \u2192 ${answer.replace('0x', '')}`;
-      const short = all.length > 38 ? all.slice(0, 37) + '\u2026' : all;
-      const font = `${isChosen ? 'bold ' : ''}${size}px ${FONT}`;
-      const tint = isChosen ? '--accent' : isOk ? '--ink' : '--alarm';
-      const style = { tint, align: 'right', font, turn };
-      pen.text(`${short}   ${number}`, axis.middle(number) + shift, top + high - 5, style);
+  // ---- all tracks, each with its height
+  function stripTrack(strip) {
+    return [strip.high + 10, drawStrip];
+    function drawStrip(top) {
+      stripChart.draw(strip, sheet.pen, top + 5);
+      sheet.side(top + 5, strip.high, stripChart.titleOf(strip));
     }
   }
-  function drawNumbers(top, high) {
-    const level = top + high - 9;
-    const number = (line, tint) =>
-      pen.text(spelled(line), axis.middle(line), level, { tint, align: 'center' });
-    const least = 56 / axis.column;
-    const unit = 10 ** Math.floor(Math.log10(least));
-    const step = [1, 2, 5, 10].map((some) => some * unit).find((some) => some >= least);
-    label(level, 'Line, of ' + spelled(count));
-    for (let line = Math.ceil(axis.first / step) * step; line <= axis.last; line += step) {
-      if (axis.middle(line) > LEFT + 26) number(line, '--soft');
-    }
-    if (!axis.has(view.line)) return;
-    const wide = 10 + 7.7 * spelled(view.line).length;
-    pen.box('--accent', axis.middle(view.line) - wide / 2, top + 3, wide, high - 5);
-    number(view.line, '--back');
+  function drawFrames(top, high) {
+    frameChart.draw(sheet.pen, top, high);
+    sheet.side(top, high, frameChart.title());
   }
-
-  // ---- events: a sign in a line's column, or bars whose height is the number
-  function drawEvents({ group, title, sign, tint }, top, high) {
-    const sum = survey.numbers[group];
-    const columns = axis.columns();
-    const counts = columns.map(({ first, last }) => sum[last] - sum[first - 1]);
-    const unit = (high - 3) / mostOf(counts);
-    label(top + high / 2, title, spelled(sum[count]));
-    rule(top + high - 1);
-    columns.forEach(({ from, to }, at) => {
-      const times = counts[at];
-      if (times && axis.column >= 9) {
-        const text = sign + (times > 1 && axis.column >= 24 ? ' ' + times : '');
-        pen.text(text, (from + to) / 2, top + high / 2, { tint, align: 'center', font: BOLD });
-      } else if (times) {
-        const tall = Math.max(2, unit * times);
-        const gap = to - from > 4 ? 1 : 0;
-        pen.box(tint, from, top + high - 1 - tall, Math.max(1, to - from - gap), tall);
-      }
-    });
+  function tracksNow(axis) {
+    const strips = stripChart.layOut(axis);
+    return [
+      axis.column < 10 ? [24, tracks.lineNumbers] : [axis.column < 20 ? 226 : 190, tracks.texts],
+      ...survey.tracks.map((track) => [15, (...place) => tracks.events(track, ...place)]),
+      ...strips.map(stripTrack),
+      ...(space.charge ? [[96, tracks.chargeTrack]] : []),
+      ...tracks.ratesNow(),
+      [frameChart.layOut(axis), drawFrames],
+      [96, tracks.lists],
+      ...tracks
+        .numbersNow()
+        .map((number) => [numberHeight, (...place) => tracks.numberTrack(number, ...place)]),
+    ];
   }
-
-  // ---- the lengths of the lists, one above the other
-  function drawStack(columns, top, high) {
-    for (const { from, to, last } of columns) {
-      const [left, right] = [Math.round(from), Math.round(to)];
-      let bottom = top + high;
-      for (const state of [ACTIVE, MODIFIED, STANDBY, READING, FREE, ZEROED]) {
-        const tall = (high * survey.numbers[COUNTS[state]][last]) / frames.length;
-        bottom -= tall;
-        pen.box('--state-' + state, left, bottom, right - left, tall + 0.3);
-      }
-    }
-  }
-  function drawLists(top, high) {
-    drawStack(axis.columns(), top, high);
-    label(top + 9, 'Page frames by list', spelled(frames.length));
-    label(top + high - 8, '', 0);
-  }
-
-  // ---- numbers over the lines, each against its limits
-  function drawNumber([title, tint, values, scale, most, least, dots = []], top, high) {
-    const bottom = top + high - 2;
-    const level = (number) => bottom - 1 - ((high - 8) * Math.min(scale, number)) / scale;
-    const edge = axis.columns().flatMap(({ from, to, first, last }) => {
-      const at = level(mostOf(values.subarray(first, last + 1)));
-      pen.box(tint, from, at, to - from + 0.4, bottom - at, 0.3);
-      return [from, at, to, at];
-    });
-    rule(bottom);
-    if (least !== undefined) rule(level(least), '--soft', DOTTED);
-    if (most(count) <= scale) rule(level(most(count)), '--soft', DASHED);
-    pen.path(tint, edge, 2);
-    for (const [line, pages] of dots) {
-      if (axis.has(line)) pen.text('\u25cf', axis.middle(line), level(pages), { align: 'center' });
-    }
-    label(top + high / 2, title, `${spelled(values[view.line])} of ${spelled(most(view.line))}`);
-  }
-
-  // ---- all of them, each with its height
-  const numbers = describeNumbers(data, survey);
-  const tracksNow = () => [
-    axis.column < 10 ? [24, drawNumbers] : [axis.column < 20 ? 226 : 190, drawTexts],
-    ...survey.tracks.map((track) => [15, (top, high) => drawEvents(track, top, high)]),
-    [frameChart.layOut(axis), (top, high) => frameChart.draw(pen, top, high)],
-    [96, drawLists],
-    ...numbers.map((number) => [numberHeight, (top, high) => drawNumber(number, top, high)]),
-  ];
-  function drawChosenLine(top, height) {
-    if (!axis.has(view.line)) return;
-    const wide = axis.column < 3 ? 0 : axis.column;
-    const left = axis.middle(view.line) - wide / 2;
-    pen.box('--chosen', left, top, wide, height - top);
-    pen.frame('--accent', left, top, wide, height - top - 1, 1.5);
-  }
-  // The lists over the whole log, and which part of it is seen below.
-  function drawOverview() {
-    overview.hidden = count < 200 && axis.count === count;
-    if (overview.hidden) return;
-    pen = new Pen(overview, 34);
-    drawStack(whole.columns(), 2, 28);
-    label(16, 'Whole log');
-    const [from, to] = [whole.x(axis.first), whole.x(axis.last + 1)];
-    pen.box('--back', LEFT, 0, from - LEFT, 34, 0.72);
-    pen.box('--back', to, 0, whole.right - to, 34, 0.72);
-    pen.frame('--accent', from, 1, Math.max(2, to - from), 31, 2);
-  }
+  // What the drawing hangs on, beside the size of the page.
+  const looks = () =>
+    [view.first, view.last, view.paint, view.tint, view.space, view.followed?.thing.name].join();
   function draw() {
+    const width = plot.parentElement.clientWidth;
     forgetColours(); // they change from light to dark
     const bar = document.querySelector('nav').offsetHeight;
     document.documentElement.style.setProperty('--bar', bar + 'px');
-    const right = plot.clientWidth - margin;
-    axis = charts.axis = makeAxis(view.first, view.last, right);
-    whole = charts.whole = makeAxis(1, count, right);
-    const tracks = tracksNow();
-    const height = tracks.reduce((sum, [high]) => sum + high + GAP, 0);
-    pen = new Pen(plot, height);
+    size = null;
+    if (width < LEAST_WIDTH) return; // a frame without a width
+    const isNarrow = width < NARROW;
+    const [left, right] = isNarrow ? [4, width - 4] : [WIDE_LEFT, width - margin];
+    const axis = (charts.axis = makeAxis(view.first, view.last, left, right));
+    charts.whole = makeAxis(1, count, left, right);
+    const [all, above] = [tracksNow(axis), isNarrow ? HEADING : 0];
+    const height = all.reduce((sum, [high]) => sum + high + GAP + above, 0);
+    size = { width, height, first: all[0][0] + above };
+    sheet.begin(new Pen(plot, width, height), axis);
     let top = 0;
-    for (const [high, drawTrack] of tracks) {
-      drawTrack(top, high);
-      top += high + GAP;
+    for (const [high, drawTrack] of all) {
+      sheet.heading = top + 8;
+      drawTrack(top + above, high);
+      top += above + high + GAP;
     }
-    drawChosenLine(tracks[0][0], height);
-    drawOverview();
-    frameChart.showLegend();
+    drawn = looks();
+    drawOverview(width);
+    legend();
+    mark();
+  }
+  // What hangs on the chosen line; on paper it is drawn into the charts.
+  function mark(isPaper = false) {
+    if (!size) return;
+    const { axis } = charts;
+    const pen = isPaper ? sheet.pen : new Pen(marks, size.width, size.height);
+    for (const part of sheet.parts) part(pen);
+    stripChart.mark(pen);
+    frameChart.mark(pen);
+    if (!axis.has(view.line)) return;
+    const wide = axis.column < 3 ? 0 : axis.column;
+    const place = [axis.middle(view.line) - wide / 2, size.first, wide];
+    pen.box('--chosen', ...place, size.height - size.first);
+    pen.frame('--accent', ...place, size.height - size.first - 1, 1.5);
+  }
+  function show() {
+    if (drawn === looks()) mark();
+    else draw();
+  }
+  // The lists over the whole log, and which part of it is seen below.
+  function drawOverview(width) {
+    const { axis, whole } = charts;
+    overview.hidden = count < 200 && axis.count === count;
+    if (overview.hidden) return;
+    const pen = new Pen(overview, width, 34);
+    tracks.stack(whole, pen, 2, 28);
+    if (!axis.isNarrow) pen.text('Whole log', axis.left - 10, 16, { align: 'right' });
+    const [from, to] = [whole.x(axis.first), whole.x(axis.last + 1)];
+    pen.box('--back', axis.left, 0, from - axis.left, 34, 0.72);
+    pen.box('--back', to, 0, whole.right - to, 34, 0.72);
+    pen.frame('--accent', from, 1, Math.max(2, to - from), 31, 2);
+  }
+  function legend() {
+    const row = (title, items) => items && `<ul><li class="quiet">${title}:</li>${items}</ul>`;
+    const addresses = row('Addresses', stripChart.legend());
+    element('legend').innerHTML = addresses + row('Frames', frameChart.legend());
   }
   return charts;
 }

@@ -58,13 +58,7 @@ class Thing {
     return this.moves[this.countUpTo(line) - 1] ?? this.start;
   }
   countUpTo(line) {
-    let [low, high] = [0, this.moves.length];
-    while (low < high) {
-      const middle = (low + high) >> 1;
-      if (this.moves[middle].line <= line) low = middle + 1;
-      else high = middle;
-    }
-    return low;
+    return firstAt(this.moves, (move) => move.line > line);
   }
 }
 function newFrame(_, id) {
@@ -73,14 +67,14 @@ function newFrame(_, id) {
   frame.start.since = id;
   return frame;
 }
-function newPage(id, first, second) {
+function newPage(id, first, page) {
   const owner = Math.floor(first / 2);
   const [letter, pid] = first % 2 ? ['s', 0] : ['p', owner];
-  return new Thing(id, `${letter}${owner}.${second}`, { pid, isFile: false });
+  return new Thing(id, `${letter}${owner}.${page}`, { pid, area: owner, page, isFile: false });
 }
 const newPlace = (id, pid, page) => new Thing(id, `${pid}.${page}`, { pid, page, uses: [] });
-// Of what two numbers name: the second, a page of 32 bits of addresses, is below 2 ** 20.
-const idOf = (first, second) => first * 2 ** 20 + second;
+// Of what two numbers name: the first is below 2 ** 20, the second below 2 ** 32.
+const idOf = (first, second) => first * 2 ** 32 + second;
 const nameOfHome = (number) => (number % 2 ? 'block ' : 'slot ') + Math.floor(number / 2);
 
 // By the letter of its code: the move that a class is of, what that names, its group and sentence.
@@ -94,38 +88,53 @@ function readClasses(text) {
   return classes;
 }
 
-function readLog(text, classes, script, answers) {
+// Letters, and numbers to the base 32, the low digit first: a digit is a byte from 63 on, and 32
+// more in it say that another follows.
+class Reader {
+  constructor(text) {
+    this.text = text;
+    this.at = 0;
+  }
+  get hasMore() {
+    return this.at < this.text.length;
+  }
+  letter() {
+    return this.text[this.at++];
+  }
+  number() {
+    for (let value = 0, unit = 1; ; unit *= 32) {
+      const digit = this.text.charCodeAt(this.at++) - 63;
+      if (!(digit >= 0 && digit < 64)) throw new Error(`byte ${this.at} is no digit`);
+      value += (digit & 31) * unit;
+      if (digit < 32) return value;
+    }
+  }
+  numbers(count) {
+    return Array.from({ length: count }, () => this.number());
+  }
+}
+
+function readLog(reader, classes, script, answers) {
   // line 0 stands for the start, so that a line's number is its place
   const lines = [{ number: 0, text: '', answer: '', isOk: true }];
   const [moves, processes, pages, places] = [[], [], new Map(), new Map()];
   const log = { lines, moves, processes, pages, places, frames: [], machine: {} };
   const kinds = Object.fromEntries(KINDS.split(', ').map((kind) => [kind[0], kind.split(' ')]));
-  let at = 0;
 
-  // A number to the base 32, the low digit first: a digit is a byte from 63 on, and 32 more in
-  // it say that another follows.
-  function number() {
-    for (let value = 0, unit = 1; ; unit *= 32) {
-      const digit = text.charCodeAt(at++) - 63;
-      if (!(digit >= 0 && digit < 64)) throw new Error(`byte ${at} is no digit`);
-      value += (digit & 31) * unit;
-      if (digit < 32) return value;
-    }
-  }
   function named(things, make) {
-    const [first, second] = [number(), number()];
+    const [first, second] = [reader.number(), reader.number()];
     const id = idOf(first, second);
     let thing = things.get(id);
     if (!thing) things.set(id, (thing = make(id, first, second)));
     return thing;
   }
-  const numbers = (count) => Array.from({ length: count }, number);
   function readLine([, kind, count]) {
-    const values = numbers(count);
+    const values = reader.numbers(count);
     const line = lines.length;
     const text = script[line - 1] ?? [kind, ...values].join(' ');
     const answer = answers[line - 1] ?? '';
-    const isOk = !answer || answer.startsWith('ok');
+    // that no request is in flight is no failure
+    const isOk = !answer || answer.startsWith('ok') || (kind === 'io' && answer === 'none');
     lines.push({ number: line, kind, values, text, answer, isOk, aged: 0, counts: null });
     const [first, second, third, blocks] = values;
     if (kind === 'machine') {
@@ -135,32 +144,35 @@ function readLog(text, classes, script, answers) {
     if (kind === 'process') processes[first] = { pid: first, min: second, max: third, line };
   }
   function readMove(found) {
-    const frame = found.frame ? log.frames[number()] : null;
+    const frame = found.frame ? log.frames[reader.number()] : null;
     const page = found.page ? named(pages, newPage) : null;
     const place = found.place ? named(places, newPlace) : null;
     const isFile = found.word === 'addfile'; // whose number is a block's, never a slot's
     if (isFile) page.isFile = true;
-    const home = found.home ? nameOfHome(isFile ? 2 * number() + 1 : number()) : '';
+    const home = found.home ? nameOfHome((isFile ? 2 : 1) * reader.number() + isFile) : '';
     moves.push(new Move(found, lines.length - 1, frame, page, place, home));
   }
-  while (at < text.length) {
-    const letter = text[at++];
-    if (letter === '=') lines.at(-1).counts = numbers(COUNTS.length);
+  while (reader.hasMore) {
+    const letter = reader.letter();
+    if (letter === '=') lines.at(-1).counts = reader.numbers(COUNTS.length);
     else if (letter !== '\n') readMove(classes[letter]);
-    else if (at < text.length) readLine(kinds[text[at++]]);
+    else if (reader.hasMore) readLine(kinds[reader.letter()]);
   }
   return log;
 }
 
-const readText = (id) => element(id).textContent.split('\n').slice(0, -1);
+const textOf = (name) => element('data-' + name).textContent;
+const rowsOf = (name) => textOf(name).split('\n').slice(0, -1);
 // An answer that begins with `ok` is written without it, any other behind a tab.
 const readAnswer = (text) => (text.startsWith('\t') ? text.slice(1) : 'ok' + text);
 
 function readData() {
-  const classes = readClasses(element('data-classes').textContent);
-  const script = readText('data-script');
-  const answers = readText('data-answers').map(readAnswer);
-  const log = readLog(element('data-moves').textContent, classes, script, answers);
+  const [script, answers] = [rowsOf('script'), rowsOf('answers').map(readAnswer)];
+  const log = readLog(new Reader(textOf('moves')), readClasses(textOf('classes')), script, answers);
   const count = log.lines.length - 1;
-  return { ...log, count, hasAges: script.length >= count && answers.length >= count };
+  const name = textOf('name').trim().split(/[/\\]/).pop();
+  const hasAges = script.length >= count && answers.length >= count;
+  // the line at which the run ended before its script did, and what was said of it
+  const early = { line: count + 1, text: script[count], answer: answers[count] ?? '' };
+  return { ...log, count, name, hasAges, early: script.length > count ? early : null };
 }

@@ -3,11 +3,13 @@
 const MOST_ROWS = 130;
 const MOST_CHOSEN_ROWS = 64;
 const MOST_LINES_TO_CHOOSE = 2000;
-const MONO = '11px ui-monospace, "DejaVu Sans Mono", monospace';
-const LETTER = 6.6; // a letter's width in this font
+const MOST_IDLE = 4; // page frames that no line uses, and that are drawn all the same
+const NOTE_HEIGHT = 18;
 
 // What colours mean: the names of the colours, their words, and which a page frame has.
 const tintOf = (state) => '--state-' + state;
+const OWNER_TINTS = [6, 4, 5, 2, 3].map(tintOf);
+const tintOfProcess = (pid) => ['--blue', ...OWNER_TINTS][(pid - 1) % 6];
 function makePaints(processes) {
   const owners = processes.flatMap(({ pid }) => {
     const others = processes[pid + 6] ? `, ${pid + 6} ..` : '';
@@ -20,7 +22,7 @@ function makePaints(processes) {
   }
   const changeOf = ({ owner, isChanged }) => (!owner ? 0 : isChanged ? 2 : 1);
   const states = STATES.map((name, state) => (state < READING ? name : 'transition: ' + name));
-  const ownerTints = ['--state-0', '--yellow', '--grey', '--blue', ...[6, 4, 5, 2, 3].map(tintOf)];
+  const ownerTints = ['--state-0', '--yellow', '--grey', '--blue', ...OWNER_TINTS];
   const changes = ['No page', 'Same as on the device', 'Changed'];
   const paint = (tints, words, of) => ({ tints, words, of });
   return {
@@ -31,17 +33,22 @@ function makePaints(processes) {
 }
 
 function makeFrameChart({ data, view }) {
-  const count = data.frames.length;
+  // those that no line uses would be a grey wall
+  const used = data.frames.filter(({ moves }) => moves.length);
+  const isWall = data.frames.length - used.length > MOST_IDLE;
+  const all = isWall ? (used.length ? used : data.frames.slice(0, 1)) : data.frames;
+  const unused = data.frames.length - all.length;
+  const note = unused ? NOTE_HEIGHT : 0;
   const paints = makePaints(data.processes);
-  let [pen, axis, rows, place, pooled] = [null, null, [], {}, {}];
+  let [pen, axis, rows, place] = [null, null, [], { top: 0, high: 0 }];
 
-  function showLegend() {
+  function legend() {
     const { tints, words } = paints[view.paint];
     const item = (text, at) =>
       `<li><i class="${view.paint}-${at}" style="background-color: var(${tints[at]})"></i>${text}`;
-    const underlined = '<li><i class="underline"></i>Underlined: changed';
-    const last = view.paint === 'state' ? underlined : '';
-    element('legend').innerHTML = words.map(item).join('') + last;
+    const hatched = '<li><i class="state-5"></i>Hatched: a request holds it';
+    const last = '<li><i class="underline"></i>Underlined: changed';
+    return words.map(item).join('') + last + (view.paint === 'state' ? '' : hatched);
   }
 
   // ---- the rows: all page frames, or those that change in the lines that are seen
@@ -50,33 +57,50 @@ function makeFrameChart({ data, view }) {
   // Chooses the rows; gives their height.
   function layOut(seen) {
     axis = seen;
-    rows = data.frames;
-    if (count > MOST_ROWS && axis.count <= MOST_LINES_TO_CHOOSE) {
+    rows = all;
+    if (all.length > MOST_ROWS && axis.count <= MOST_LINES_TO_CHOOSE) {
       const chosen = rows.filter(changesHere);
       if (chosen.length && chosen.length <= MOST_CHOSEN_ROWS) rows = chosen;
     }
-    if (rows.length <= 40) return rows.length * 19;
-    if (rows.length <= MOST_CHOSEN_ROWS) return rows.length * (axis.column >= 10 ? 14 : 8);
-    return rows.length <= MOST_ROWS ? rows.length * 4 : 400;
+    return note + heightOf(rows.length);
   }
-  function draw(given, top, high) {
+  function heightOf(many) {
+    if (many <= 24) return many * 19;
+    if (many <= MOST_CHOSEN_ROWS) return many * (axis.column >= 10 ? 14 : axis.column >= 1 ? 8 : 4);
+    return many <= MOST_ROWS ? many * 4 : 320;
+  }
+  function draw(given, top, whole) {
     pen = given;
-    place = { top, high };
+    const high = whole - note;
     const row = high / rows.length;
+    place = { top, high };
     if (axis.column >= 1 && row >= 3) {
       rows.forEach((frame, at) => drawRow(frame, top + at * row, row > 6 ? row - 1 : row));
-    } else drawPooled(top, high);
+    } else drawAll(top, high);
+    const text = `and ${spelled(unused)} page frames that no line uses`;
+    if (note) pen.text(text, axis.left + 4, top + high + 9, { tint: '--soft' });
     const step = 2 ** Math.max(0, Math.ceil(Math.log2(13 / row)));
-    for (let at = 0; at < rows.length; at += step) {
+    for (let at = 0; at < rows.length && !axis.isNarrow; at += step) {
       const level = top + (at + 0.5) * row;
-      pen.text(rows[at].name, LEFT - 10, level, { tint: '--soft', align: 'right' });
+      pen.text(rows[at].name, axis.left - 10, level, { tint: '--soft', align: 'right' });
     }
-    const some = high > 190 ? 'Frames that change here' : 'These change';
-    const title = rows.length < count ? some : 'Page frames';
-    pen.text(title, 14, top + Math.min(high, 400) / 2, { align: 'center', turn: -Math.PI / 2 });
+  }
+  function title() {
+    if (rows.length === all.length) return 'Page frames';
+    return place.high > 190 ? 'Frames that change here' : 'These change';
   }
   // The page frame whose row is at a height of all charts, if one is.
-  const frameAt = (y) => rows[Math.floor(((y - place.top) / place.high) * rows.length)];
+  function frameAt(y) {
+    const at = Math.floor(((y - place.top) / place.high) * rows.length);
+    return y >= place.top ? rows[at] : undefined;
+  }
+  // The row of the page frame whose history is shown.
+  function mark(above) {
+    const [at, row] = [rows.findIndex(isFollowed), place.high / rows.length];
+    const wide = axis.right - axis.left;
+    const high = Math.max(2, row > 6 ? row - 1 : row);
+    if (at >= 0) above.frame('--ink', axis.left, place.top + at * row, wide, high, 2);
+  }
 
   // ---- a row each
   // Calls each(stands, from, to) for how a page frame stands in the lines that are seen.
@@ -104,7 +128,6 @@ function makeFrameChart({ data, view }) {
       if (isUnderlined) pen.box(inkOn(tint), left, top + high - 3, wide, 2, 0.55);
       if (owner && high >= 12) drawName(stands, tint, left, top, wide, high);
     });
-    if (isFollowed(frame)) pen.frame('--ink', LEFT, top, axis.right - LEFT, high, 2);
   }
   function drawName({ owner, shares, request }, tint, left, top, wide, high) {
     const text = owner.name + (shares > 1 ? ' \u00d7' + shares : '');
@@ -114,44 +137,16 @@ function makeFrameChart({ data, view }) {
     if (request) pen.box(tint, left + 2, top + 2, need + 4, high - 4);
     pen.text(text, left + 4, top + high / 2, { tint: inkOn(tint), font: MONO });
   }
-
-  // ---- pooled: each pixel has the colour that most of its page frames have for most of its lines
-  // The picture does not hang on the chosen line, so it is kept from one line to the next.
-  function drawPooled(top, high) {
-    const wide = Math.round((axis.right - LEFT) * devicePixelRatio);
-    const tall = clamp(Math.round(high * devicePixelRatio), 1, count);
-    const colours = paints[view.paint].tints.map(colour);
-    const name = [view.paint, ...colours, axis.first, axis.last, wide, tall].join();
-    if (pooled.name !== name) pooled = { name, canvas: pool(wide, tall) };
-    pen.context.imageSmoothingEnabled = false;
-    pen.context.drawImage(pooled.canvas, LEFT, top, axis.right - LEFT, high);
-  }
-  function pool(wide, tall) {
+  function drawAll(top, high) {
     const { tints, of } = paints[view.paint];
-    const colours = tints.map((name) => [...channels(name), 255]);
-    const pixels = wide / axis.count;
-    const image = new ImageData(wide, tall);
-    const weights = tints.map(() => new Float32Array(wide));
-    // Adds for how long a page frame has a colour in each pixel of its row.
-    function weigh(stands, first, next) {
-      const weight = weights[of(stands)];
-      const [from, to] = [(first - axis.first) * pixels, (next - axis.first) * pixels];
-      for (let at = Math.floor(from); at < to; at++) {
-        weight[at] += Math.min(at + 1, to) - Math.max(at, from);
-      }
-    }
-    for (let row = 0; row < tall; row++) {
-      const [from, to] = [row, row + 1].map((edge) => Math.floor((edge * count) / tall));
-      for (const weight of weights) weight.fill(0);
-      for (const frame of data.frames.slice(from, to)) eachStand(frame, weigh);
-      for (let at = 0; at < wide; at++) {
-        const heavier = (best, weight, tint) => (weight[at] > weights[best][at] ? tint : best);
-        image.data.set(colours[weights.reduce(heavier, 0)], 4 * (row * wide + at));
-      }
-    }
-    const canvas = new OffscreenCanvas(wide, tall);
-    canvas.getContext('2d').putImageData(image, 0, 0);
-    return canvas;
+    const tall = clamp(Math.round(high * devicePixelRatio), 1, all.length);
+    const edge = (y) => Math.floor((y * all.length) / tall);
+    drawPooled(pen, axis, {
+      ...{ name: 'frames ' + view.paint, tints, top, high, tall },
+      rowsAt: (y) => all.slice(edge(y), edge(y + 1)),
+      eachStretch: (frame, weigh) =>
+        eachStand(frame, (stands, from, to) => weigh(of(stands), from, to)),
+    });
   }
-  return { paints, showLegend, layOut, draw, frameAt };
+  return { paints, legend, layOut, draw, title, frameAt, mark };
 }

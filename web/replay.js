@@ -13,10 +13,13 @@ function replay({ machine, frames, processes, lines, moves, count }) {
   const columns = [];
   const column = () => columns[columns.push(new Int32Array(count + 1)) - 1];
   // by the names of COUNTS, and what else is counted; slots are the free ones
-  const names = [...COUNTS, ...TRACKS.map(({ group }) => group), 'allSlots', 'committed', 'moves'];
+  const names = [...COUNTS, ...TRACKS.map(({ group }) => group), 'allSlots', 'moves'];
+  names.push('committed', 'privates', 'sections');
   const numbers = Object.fromEntries(names.map((name) => [name, column()]));
   // of each process its places, and how often they were aged
-  for (const pid in processes) Object.assign(processes[pid], { sizes: column(), aged: column() });
+  for (const process of processes.filter(Boolean)) {
+    Object.assign(process, { sizes: column(), aged: column(), faults: [], hard: [] });
+  }
   // by state; the two last are transition
   const lengths = STATES.map((_, state) => numbers[COUNTS[Math.min(state, READING)]]);
   numbers.free[0] = machine.frames;
@@ -25,10 +28,10 @@ function replay({ machine, frames, processes, lines, moves, count }) {
 
   // What each move does, by its word. It begins with how its page frame stood before.
   const MOVES = {
-    add: () => numbers.committed[line]++,
+    add: (move) => commit(move.page, 1),
     addfile: () => {},
     drop(move) {
-      if (!move.page.isFile) numbers.committed[line]--;
+      if (!move.page.isFile) commit(move.page, -1);
       if (!move.frame) dropSlot(move.home);
       else if (move.request) move.owner = null;
       else forget(move);
@@ -59,6 +62,13 @@ function replay({ machine, frames, processes, lines, moves, count }) {
   };
 
   // ---- what moves are made of
+  // Private pages that a call committed, and those of page-file sections. A page that comes to be
+  // in an access is a copy, and charged with its view.
+  function commit(page, more) {
+    numbers.committed[line] += more;
+    if (more > 0) page.isCopy = page.pid > 0 && /access|thread/.test(lines[line].kind);
+    if (!page.isCopy) numbers[page.pid ? 'privates' : 'sections'][line] += more;
+  }
   function own(move, owner, isChanged, backing) {
     move.owner = owner;
     move.isChanged = isChanged;
@@ -129,6 +139,11 @@ function replay({ machine, frames, processes, lines, moves, count }) {
     place?.moves.push(move);
     numbers.moves[line]++;
     if (group in numbers) numbers[group][line]++;
+    if (FAULTS.some((fault) => fault.group === group)) {
+      const process = processes[lines[line].values[0]];
+      process.faults.push(line);
+      if (group === 'hard') process.hard.push(line);
+    }
     if (!move.frame) return;
     lengths[move.was][line]--;
     lengths[move.state][line]++;

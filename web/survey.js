@@ -16,8 +16,9 @@ const TRACKS = [
   ['replace', '--state-3', '\u21c4', 'page* replaced in a full working set', 'Replaced: set full'],
   ['write', '--state-6', '\u25bc', 'write-out* begun', 'Write-outs begun'],
   ['failed', '--alarm', '!', 'failed device call*', 'Device calls failed'],
-  ['refused', '--alarm', '\u2717', 'answer* other than ok', 'Answer is not ok'],
+  ['refused', '--alarm', '\u2717', 'answer* other than ok', 'Answers other than ok'],
 ].map(([group, tint, sign, words, title]) => ({ group, tint, sign, words, title }));
+const FAULTS = TRACKS.slice(0, 5);
 
 function surveyLog(data) {
   const numbers = replay(data);
@@ -47,7 +48,7 @@ function stateAfter({ frames, pages, places, processes }, numbers, line) {
   function pageOf({ class: { word }, place: { pid, page, uses }, frame, line: first }) {
     if (word !== 'map') return [];
     const { aged } = processes[pid];
-    const used = uses.findLast((use) => use <= line) ?? 0;
+    const used = uses[firstAt(uses, (use) => use > line) - 1] ?? 0;
     return { pid, page, frame, age: Math.min(OLDEST, aged[line] - aged[Math.max(used, first)]) };
   }
   const valid = after(places.values()).flatMap(pageOf);

@@ -8,13 +8,15 @@
     show.py frame N < LOG, show.py key KEY < LOG    the history of a frame, of a page, `p1.16`, `s0.2` or `1:0x10000`
     show.py faults < LOG                            per process and page; device traffic
     show.py sums < LOG                              how many moves are of each class
-    show.py html PAGE [SCRIPT [ANSWERS]] < LOG      the page; PAGE is what `web/pack --whole` prints
+    show.py html PAGE [SCRIPT [ANSWERS [OBSERVATIONS]]] < LOG
+                                                    the page; PAGE is what `web/pack --whole` prints
 
 It stands on life.py, an independent replay of a log.
 """
 import sys
 from collections import Counter, OrderedDict
 
+import observations
 import remarks
 from life import Life, read_move, spell_key, spell_move
 from refusals import refusal
@@ -296,7 +298,7 @@ def spell_place(place, with_address):
 def texts(names):
     """The lines of the script and of the answers, as lists; both may be absent."""
     out = []
-    for name in names:
+    for name in names[:2]:
         data = open(name, 'rb').read().replace(b'\r\n', b'\n')
         out.append(data.decode('latin-1').split('\n')[:-1])
     return (out + [None, None])[:2]
@@ -465,14 +467,7 @@ def do_sums(data):
 
 
 # ------------------------------------------------------------------ the page
-def number(n):
-    """Base 32, the low digit first; a digit with 32 added says that more follow.  Digits are the bytes 63 to 126."""
-    out = ''
-    while True:
-        low, n = n & 31, n >> 5
-        out += chr(63 + low + (32 if n else 0))
-        if not n:
-            return out
+number = observations.digits
 
 
 def numbers(*ns):
@@ -539,10 +534,20 @@ def do_html(data, page, names):
     page = open(page, encoding='ascii').read()
     islands = {'CLASSES': class_table(), 'MOVES': island(data, script),
                'SCRIPT': ''.join(safe(x) + '\n' for x in script or []),
-               'ANSWERS': ''.join(answer_data(x) + '\n' for x in answers or [])}
+               'ANSWERS': ''.join(answer_data(x) + '\n' for x in answers or []),
+               'NAME': safe(names[0]) + '\n' if names else '',
+               'OBSERVATIONS': observed(data, names[2]) if len(names) > 2 else ''}
     for name, text in islands.items():
         page = page.replace('@%s@' % name, text)
     return page.removesuffix('\n')
+
+
+def observed(data, name):
+    """The observations of the file, packed."""
+    made = [(m[1], m[2][1]) for m in moves_of(data) if m[0] == 'at' and m[2][0] == 'process']
+    count = sum(m[0] == 'at' for m in moves_of(data))
+    with open(name, 'rb') as file:
+        return observations.packed(file.read(), count, dict((pid, line) for line, pid in made))
 
 
 def class_table():
@@ -590,7 +595,7 @@ def form_of(argv):
         return lambda out, data: do_frame(out, data, value)
     if name == 'key' and read_page(word):
         return lambda out, data: do_key(out, data, read_page(word))
-    if name == 'html' and 1 <= len(words) <= 3:
+    if name == 'html' and 1 <= len(words) <= 4:
         return lambda out, data: out.append(do_html(data, words[0], words[1:]))
     if name in ('faults', 'sums') and not words:
         return lambda out, data: out.extend(do_faults(data) if name == 'faults' else do_sums(data))
@@ -613,6 +618,8 @@ def answer(argv, data):
         last, status = 'no line %d%s\n' % (bad.line, why), 3
     except BadScript as bad:
         last, status = 'script line %d\n' % bad.args[0], 6
+    except observations.BadObservation as bad:
+        last, status = 'observation line %d\n' % bad.args[0], 6
     return status, ''.join(line + '\n' for line in out) + last
 
 

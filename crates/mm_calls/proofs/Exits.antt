@@ -9,7 +9,7 @@ use Rattle.mm_types.specs.declared.codes.Code.TheVariants as code
 use Rattle.mm_world.specs.{ProcessOf, charge, limit, Tables, blank, process_of, OutcomeOf, done, is_success, refused, within_limit}
 use Rattle.mm_world.specs.Alloc.{commit_pages}
 use Rattle.mm_world.proofs.{at_room, at_limit}
-use Rattle.mm_store.specs.{Ghosts as PagesGhosts, Turn, Makes}
+use Rattle.mm_store.specs.{Ghosts as PageStoreGhosts, Turn, Makes}
 use Rattle.mm_store.proofs.{turns_same}
 use Rattle.mm_object_tables.specs.{FitsTables, Settled, PassesAs, MakesPages, MakesWithin, SettlesTables, StaysIdle, Called}
 use Rattle.mm_object_tables.proofs.{settled_same, called_by}
@@ -62,7 +62,7 @@ pub ok_unless : {T E : Type 0} (r : Result T E) {P : Type 0} → OnErr r P → (
 ok_unless (Ok x) h refuted = refl
 ok_unless (Err e) h refuted = refuted h
 
-module _ {G : Type 0} (p : PagesGhosts G) where
+module _ {G : Type 0} (p : PageStoreGhosts G) where
   -- ---- nothing has changed
 
   pub stays_idle : (g : G) → StaysIdle p g g
@@ -129,7 +129,7 @@ module _ {G : Type 0} (p : PagesGhosts G) where
 
 -- ---- a call's promise, from its parts
 
-module _ {G : Type 0} (p : PagesGhosts G) (o : OutcomeOf (Unit {0})) (t : Tables) (g : G) (fits : FitsTables t (p.contents g) (p.store g)) where
+module _ {G : Type 0} (p : PageStoreGhosts G) (o : OutcomeOf (Unit {0})) (t : Tables) (g : G) (fits : FitsTables t (p.contents g) (p.store g)) where
   -- by what was decided
   pub answers : (a : Answer) (after : Tables) (h : G) → Settled after (p.contents g) (p.contents h) (p.store g) (p.store h) → o ≡ record { answer = a; world = after } → AnswersCall p o t g a after h
   answers a after h s is =

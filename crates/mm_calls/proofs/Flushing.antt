@@ -11,7 +11,7 @@ use Rattle.mm_move_rules.specs.{numbers_from, FrameLife, after_move, Replays}
 use Rattle.mm_devices.specs.{CallFailed}
 use Rattle.mm_devices.proofs.{all_served_later, failed_later}
 use Rattle.mm_world.specs.{RegionOf, ProcessOf, pages_of, Found, process_of, area_at, Tables, shared_key, flushed_view, flushed_range, Page}
-use Rattle.mm_store.specs.{Ghosts as PagesGhosts, Served, wrote, StoreOf, FlushedAt, ends_lost, life_through, ByMoves, FlushesPage, Flushes, PassesIn}
+use Rattle.mm_store.specs.{Ghosts as PageStoreGhosts, Served, wrote, StoreOf, FlushedAt, ends_lost, life_through, ByMoves, FlushesPage, Flushes, PassesIn}
 use Rattle.mm_store.specs.{Turns, MakesFrom}
 use Rattle.mm_sections.specs.{number_of_block}
 use Rattle.mm_store.proofs.{served_none, served_then, Joins, passes_then, moved_then, turns_same}
@@ -148,7 +148,7 @@ blamed_since s z y h failed = failed_later s.file_device z.file_device y.file_de
 -- ---- a store that was only written to
 
 -- a flush is answered, with the failure that it is blamed on
-pub answers_flushed : {G : Type 0} (p : PagesGhosts G) {t : Tables} {g h : G} → FitsTables t (p.contents g) (p.store g) → FlushesBlocks p g h → (a : Answer) → (a ≡ answer.Fault → CallFailed (p.store g).file_device (p.store h).file_device) → AnswersFlush p t a g h
+pub answers_flushed : {G : Type 0} (p : PageStoreGhosts G) {t : Tables} {g h : G} → FitsTables t (p.contents g) (p.store g) → FlushesBlocks p g h → (a : Answer) → (a ≡ answer.Fault → CallFailed (p.store g).file_device (p.store h).file_device) → AnswersFlush p t a g h
 answers_flushed p {t = t} {g = g} {h = h} fits e a blamed =
     assumption (fits_wrote t (p.contents g) (p.contents h) (p.store g) (p.store h) fits e.contents e.store e.stored e.served, blamed, e)
 

@@ -5,7 +5,7 @@ use Rattle.mm_types.specs.{Answer, NoMemory, Key, Pid, Range}
 use Rattle.mm_types.specs.declared.moves.LineKind.TheVariants as line_kind
 use Rattle.mm_world.specs.{Page, ProcessOf, charge, limit, Tables, blank, process_of, OutcomeOf, is_success, new_process, most_processes}
 use Rattle.mm_world.specs.Alloc.{commit_pages}
-use Rattle.mm_store.specs.{Ghosts as PagesGhosts, Turn, MakesFrom, MakesStack, leaving, StoreOf, Goes}
+use Rattle.mm_store.specs.{Ghosts as PageStoreGhosts, Turn, MakesFrom, MakesStack, leaving, StoreOf, Goes}
 use Rattle.mm_object_tables.specs.{FitsTables, Called, Settled, before_process, is_uncommitted, store_beside, PassesAs, MakesPages, StandsFrom}
 
 -- a stack of these pages has room for its top pages, its guard page and one page more
@@ -23,7 +23,7 @@ abbrev pub StaysSettled : Tables → Tables → Type 0
 StaysSettled t after =
     (c : Key → Option Page) (s : StoreOf) → FitsTables t c s → Settled after c c s s
 
-module _ {G : Type 0} (p : PagesGhosts G) where
+module _ {G : Type 0} (p : PageStoreGhosts G) where
   -- ---- what is asked
 
   -- the line of a call, over a store that fits the tables

@@ -5,11 +5,11 @@ use Rattle.mm_types.specs.{Answer, Rose, Text}
 use Rattle.mm_types.specs.declared.answers.Answer.TheVariants as answer
 use Rattle.mm_devices.specs.{CallFailed}
 use Rattle.mm_world.specs.{Tables, BytesAfterFile, is_failed_extension}
-use Rattle.mm_store.specs.{Ghosts as PagesGhosts, Served, begun, wrote}
+use Rattle.mm_store.specs.{Ghosts as PageStoreGhosts, Served, begun, wrote}
 use Rattle.mm_object_tables.specs.{FitsTables, beside_file, extended, file_told, grow_told, key_bytes}
 use Rattle.mm_calls.specs.Stages.{AreHeld, NewFileMade}
 
-module _ {G : Type 0} (p : PagesGhosts G) where
+module _ {G : Type 0} (p : PageStoreGhosts G) where
   -- the paging file grew by `n` slots in this line, or it could not
   pub record AnswersGrow (line n : ℕ) (t : Tables) (g : G) (a : Answer) (after : Tables) (h : G) :
       Type 0 where

@@ -9,9 +9,9 @@ ghost use Rattle.mm_calls.specs.{AreHeld, InBlocks, keys_from, flushed_keys, Beg
 ghost use Rattle.mm_calls.specs.{HoldsPages, FailsWrite};
 
 use crate::views::view_of;
-use mm_store::Pages;
 use mm_address_spaces::PageRange;
 use mm_object_tables::Tables;
+use mm_store::PageStore;
 use mm_types::{Answer, Area, Block, Code, Key, MakeFault, Name, NoMemory, Pid, View, WriteFault};
 use std::alloc::Global;
 
@@ -22,7 +22,7 @@ use std::alloc::Global;
 /// `Fault` exactly where a write of the file device failed, and then there is no file. After
 /// `NoMemory`, which neither refusal comes to, nothing has changed.
 #[tactic(auto, using(mm_object_tables::proofs::Turning::notes_nothing, mm_store::proofs::Served::served_none))]
-pub fn new_file<G: Pages>(
+pub fn new_file<G: PageStore>(
     allocator: Global,
     t: &mut Tables,
     g: &mut G,
@@ -30,12 +30,12 @@ pub fn new_file<G: Pages>(
     pages: u32,
     byte: u8,
 ) -> Result<Answer, NoMemory>
-    requires begins { BeginsWrites G.Pages t.old g.old }
+    requires begins { BeginsWrites G.PageStore t.old g.old }
     requires few { IsFew t.old }
     requires some { 1 ≤ pages }
-    ensures done { IfOk result (λ a. AnswersFile G.Pages name.now pages byte t.old g.old a t.new
+    ensures done { IfOk result (λ a. AnswersFile G.PageStore name.now pages byte t.old g.old a t.new
         g.new) }
-    ensures broke { OnErr result (ChangesNothing G.Pages t.old g.old t.new g.new) }
+    ensures broke { OnErr result (ChangesNothing G.PageStore t.old g.old t.new g.new) }
     ensures no_memory { is_success (new_file blank t.old name.now pages byte).answer ≡ false
         → IsOk result }
     ensures notes { NotesIn G.unpaged (Turns Makes) (G.behind g.old) (G.behind g.new) }
@@ -62,13 +62,13 @@ pub fn new_file<G: Pages>(
 /// range does not lie in one view; `Fault` exactly where a write of the file device failed; the
 /// pages before it were written.
 #[tactic(auto, using(mm_store::proofs::Served::served_none))]
-pub fn flush_view<G: Pages>(t: &Tables, g: &mut G, pid: Pid, addr: u32, size: u32) -> Answer
-    requires begins { BeginsWrites G.Pages t.now g.old }
+pub fn flush_view<G: PageStore>(t: &Tables, g: &mut G, pid: Pid, addr: u32, size: u32) -> Answer
+    requires begins { BeginsWrites G.PageStore t.now g.old }
     ensures outcome { flush_told t.now pid.0 addr size (G.store g.new).report ≡ record {
       answer = result;
       world = t.now;
     } }
-    ensures done { AnswersFlush G.Pages t.now result g.old g.new }
+    ensures done { AnswersFlush G.PageStore t.now result g.old g.new }
     ensures holds { result ≡ answer.Ok →
         BlocksHold t.now (G.contents g.new) (G.store g.new).file_blocks pid.0 addr size }
     ensures passes { PassesIn G.unpaged (Flushes (flushed_keys t.now pid.0 addr size))
@@ -110,13 +110,19 @@ fn flushed_count(size: u32, left: u32, meant: u32) -> u32
 /// Flushes `count` pages of a view from its page `before` on; those of a page-file section have no
 /// blocks.
 #[tactic(auto, using(mm_store::proofs::Served::served_none))]
-fn flush_view_pages<G: Pages>(t: &Tables, g: &mut G, view: View, before: u32, count: u32) -> Answer
-    requires begins { BeginsWrites G.Pages t.now g.old }
+fn flush_view_pages<G: PageStore>(
+    t: &Tables,
+    g: &mut G,
+    view: View,
+    before: u32,
+    count: u32,
+) -> Answer
+    requires begins { BeginsWrites G.PageStore t.now g.old }
     requires area { view.area.0 < length t.now.areas }
     requires within { view.first + before + count ≤ length (area_at t.now view.area.0).pages }
     ensures answer { (if nat_lt 0 (G.store g.new).report.file_writes.failed then answer.Fault else
         answer.Ok) ≡ result }
-    ensures done { AnswersFlush G.Pages t.now result g.old g.new }
+    ensures done { AnswersFlush G.PageStore t.now result g.old g.new }
     ensures held { result ≡ answer.Ok →
         AreHeld (λ k. file_block_in t.now k) (G.contents g.new) (G.store g.new).file_blocks
         view.area.0
@@ -142,7 +148,7 @@ fn flush_view_pages<G: Pages>(t: &Tables, g: &mut G, view: View, before: u32, co
 /// Flushes `count` pages of a file's area from the index `first` on, in rising order, up to the
 /// first that is not written. The pages have blocks in a row, the page with the index i the block
 /// `block + i`.
-fn flush_pages<G: Pages>(
+fn flush_pages<G: PageStore>(
     g: &mut G,
     area: Area,
     first: u32,
@@ -153,9 +159,9 @@ fn flush_pages<G: Pages>(
     requires few { first + count < 2 ^ 32 }
     requires begun { (G.store g.old).report.file_writes.failed ≡ 0 }
     requires blocks { InBlocks (G.store g.old).block_of area.0 first count block.0 }
-    ensures flushes { FlushesBlocks G.Pages g.old g.new }
-    ensures held { OnOk result (HoldsPages G.Pages area.0 first count g.old g.new) }
-    ensures broke { OnErr result (FailsWrite G.Pages g.old g.new) }
+    ensures flushes { FlushesBlocks G.PageStore g.old g.new }
+    ensures held { OnOk result (HoldsPages G.PageStore area.0 first count g.old g.new) }
+    ensures broke { OnErr result (FailsWrite G.PageStore g.old g.new) }
     ensures passes { PassesIn G.unpaged (Flushes (keys_from area.0 first count)) (G.store g.old)
         (G.store g.new) (G.behind g.old) (G.behind g.new) }
 {

@@ -4,8 +4,8 @@ ghost use Rattle.mm_store.specs.{begun, NotesIn};
 ghost use Rattle.mm_calls.specs.{GrowsBy, BeginsProcess, BeginsRelease, AnswersCall, ChangesNothing, LosesPages, AnswersGrow};
 ghost use Rattle.mm_object_tables.specs.{FitsTables, StaysIdle};
 
-use mm_store::Pages;
 use mm_object_tables::Tables;
+use mm_store::PageStore;
 use mm_types::{Answer, Code, GrowFault, LineKind, NoMemory, Pid};
 use std::alloc::Global;
 
@@ -18,19 +18,19 @@ const SLOTS: u32 = 262_144;
 /// `Full` exactly where 64 processes were made. `NoMemory`, after which tables and store are as
 /// before and no call of this line can follow, comes only where it is not `Full`.
 #[tactic(auto, using(mm_store::proofs::Passed::turns_same))]
-pub fn new_process<G: Pages>(
+pub fn new_process<G: PageStore>(
     allocator: Global,
     t: &mut Tables,
     g: &mut G,
     min: u32,
     max: u32,
 ) -> Result<Answer, NoMemory>
-    requires begins { BeginsProcess G.Pages min max t.old g.old }
-    ensures done { IfOk result (λ a. AnswersCall G.Pages (new_process t.old) t.old g.old a t.new
+    requires begins { BeginsProcess G.PageStore min max t.old g.old }
+    ensures done { IfOk result (λ a. AnswersCall G.PageStore (new_process t.old) t.old g.old a t.new
         g.new) }
-    ensures broke { OnErr result (ChangesNothing G.Pages t.old g.old t.new g.new) }
+    ensures broke { OnErr result (ChangesNothing G.PageStore t.old g.old t.new g.new) }
     ensures no_memory { nat_le (length t.old.processes) most_processes ≡ false → IsOk result }
-    ensures idles { StaysIdle G.Pages g.old g.new }
+    ensures idles { StaysIdle G.PageStore g.old g.new }
 {
     let pid = match t.next_pid() {
         Some(pid) => pid,
@@ -45,10 +45,10 @@ pub fn new_process<G: Pages>(
 ///
 /// `InvalidHandle` for a process that does not live.
 #[tactic(auto, using(mm_store::proofs::Passed::turns_same))]
-pub fn end_process<G: Pages>(t: &mut Tables, g: &mut G, pid: Pid) -> Answer
-    requires begins { BeginsRelease G.Pages pid t.old g.old }
-    ensures done { AnswersCall G.Pages (exit t.old pid.0) t.old g.old result t.new g.new }
-    ensures loses { LosesPages G.Pages pid t.old t.new g.old g.new }
+pub fn end_process<G: PageStore>(t: &mut Tables, g: &mut G, pid: Pid) -> Answer
+    requires begins { BeginsRelease G.PageStore pid t.old g.old }
+    ensures done { AnswersCall G.PageStore (exit t.old pid.0) t.old g.old result t.new g.new }
+    ensures loses { LosesPages G.PageStore pid t.old t.new g.old g.new }
 {
     if !t.has(pid) {
         return Answer::Error(Code::InvalidHandle);
@@ -63,7 +63,7 @@ pub fn end_process<G: Pages>(t: &mut Tables, g: &mut G, pid: Pid) -> Answer
 /// `Full` exactly where the machine would have more than 262,144 slots; `Fault` only where the
 /// paging device failed. `NoMemory`, after which no line has begun, comes only where it is not
 /// `Full`.
-pub fn grow_paging<G: Pages>(
+pub fn grow_paging<G: PageStore>(
     t: &mut Tables,
     g: &mut G,
     line: u32,
@@ -72,8 +72,8 @@ pub fn grow_paging<G: Pages>(
     requires fits { FitsTables t.old (G.contents g.old) (G.store g.old) }
     requires next { line ≡ (G.store g.old).line + 1 }
     requires some { 1 ≤ n }
-    ensures done { IfOk result (λ a. AnswersGrow G.Pages line n t.old g.old a t.new g.new) }
-    ensures broke { OnErr result (ChangesNothing G.Pages t.old g.old t.new g.new) }
+    ensures done { IfOk result (λ a. AnswersGrow G.PageStore line n t.old g.old a t.new g.new) }
+    ensures broke { OnErr result (ChangesNothing G.PageStore t.old g.old t.new g.new) }
     ensures no_memory { is_success (grow t.old n).answer ≡ false → IsOk result }
     ensures notes { NotesIn G.unpaged (GrowsBy line n result) (G.behind g.old) (G.behind g.new) }
     ensures loans { G.loans g.new ≡ G.loans g.old }

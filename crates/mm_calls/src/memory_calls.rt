@@ -12,9 +12,9 @@ use crate::parameters::{
     are_alloc_parameters, are_free_parameters, are_protect_parameters, is_reserving,
     is_watched_type, new_pages, plain_type,
 };
-use mm_store::Pages;
 use mm_address_spaces::{AddressSpace, PageRange, ProtectInfo};
 use mm_object_tables::Tables;
+use mm_store::PageStore;
 use mm_types::{AllocFlags, Answer, Code, Kind, NoMemory, PAGE_SIZE, Pid, Prot, View};
 use std::alloc::Global;
 
@@ -28,7 +28,7 @@ use std::alloc::Global;
 /// protection; `CommitmentLimit` where the charge would pass the limit. `NoMemory` comes only where
 /// a region is made, or a page committed that was not; then tables and pages are as before.
 #[tactic(auto, using(mm_store::proofs::Passed::turns_same))]
-pub fn valloc<G: Pages>(
+pub fn valloc<G: PageStore>(
     allocator: Global,
     t: &mut Tables,
     g: &mut G,
@@ -38,12 +38,12 @@ pub fn valloc<G: Pages>(
     kind: u32,
     prot: u32,
 ) -> Result<Answer, NoMemory>
-    requires begins { BeginsCall G.Pages t.old g.old }
-    ensures done { IfOk result (λ a. AnswersCall G.Pages
+    requires begins { BeginsCall G.PageStore t.old g.old }
+    ensures done { IfOk result (λ a. AnswersCall G.PageStore
         (alloc blank t.old pid.0 addr size kind prot) t.old g.old a t.new g.new) }
-    ensures broke { OnErr result (LacksMemory G.Pages t.old g.old t.new g.new) }
+    ensures broke { OnErr result (LacksMemory G.PageStore t.old g.old t.new g.new) }
     ensures no_memory { allocates_anew blank t.old pid.0 addr size kind prot ≡ false → IsOk result }
-    ensures makes { MakesPages G.Pages result g.old g.new }
+    ensures makes { MakesPages G.PageStore result g.old g.new }
 {
     if !t.has(pid) {
         return Ok(Answer::Error(Code::InvalidHandle));
@@ -62,7 +62,7 @@ pub fn valloc<G: Pages>(
 
 /// Reserves pages of a living process, watched or not, and commits them where the type says so.
 #[tactic(auto, using(mm_store::proofs::Passed::turns_same))]
-fn reserve<G: Pages>(
+fn reserve<G: PageStore>(
     allocator: Global,
     t: &mut Tables,
     g: &mut G,
@@ -73,12 +73,12 @@ fn reserve<G: Pages>(
     kind: u32,
     prot: u32,
 ) -> Result<Answer, NoMemory>
-    requires ready { IsReadyFor G.Pages line_kind.Call pid t.old g.old }
+    requires ready { IsReadyFor G.PageStore line_kind.Call pid t.old g.old }
     requires some { 1 ≤ size }
     requires prot { is_protection_among private_protections prot ≡ true }
-    ensures made { MakesIn G.Pages pid (λ p.
+    ensures made { MakesIn G.PageStore pid (λ p.
         reserve blank t.old pid.0 p addr size watched kind prot) result t.old g.old t.new g.new }
-    ensures makes { MakesPages G.Pages result g.old g.new }
+    ensures makes { MakesPages G.PageStore result g.old g.new }
 {
     let range = match t.space(pid).gap(addr, size) {
         Some(range) => range,
@@ -96,16 +96,16 @@ fn reserve<G: Pages>(
 /// Commits pages of a living process, in a private region or in a view, as `valloc` does.
 /// `NoMemory` comes only where the store has no room for them.
 #[tactic(auto, using(mm_store::proofs::Passed::turns_same))]
-pub fn commit<G: Pages>(
+pub fn commit<G: PageStore>(
     t: &mut Tables,
     g: &mut G,
     pid: Pid,
     range: PageRange,
     prot: u32,
 ) -> Result<Answer, NoMemory>
-    requires ready { IsReadyFor G.Pages line_kind.Call pid t.old g.old }
+    requires ready { IsReadyFor G.PageStore line_kind.Call pid t.old g.old }
     requires prot { is_protection_among private_protections prot ≡ true }
-    ensures { CommitsRange G.Pages pid range prot result t.old g.old t.new g.new }
+    ensures { CommitsRange G.PageStore pid range prot result t.old g.old t.new g.new }
 {
     let space = t.space(pid);
     let region = match space.region_around(range) {
@@ -131,7 +131,7 @@ pub fn commit<G: Pages>(
 /// Commits section pages under pages of the view around them, which has these pages, and gives the
 /// view's rows the protection.
 #[tactic(auto, using(mm_store::proofs::Passed::turns_same))]
-fn commit_view<G: Pages>(
+fn commit_view<G: PageStore>(
     t: &mut Tables,
     g: &mut G,
     pid: Pid,
@@ -140,14 +140,14 @@ fn commit_view<G: Pages>(
     view: View,
     prot: u32,
 ) -> Result<Answer, NoMemory>
-    requires ready { IsReadyFor G.Pages line_kind.Call pid t.old g.old }
+    requires ready { IsReadyFor G.PageStore line_kind.Call pid t.old g.old }
     requires around { (p : ProcessOf (Unit {0})) → process_of t.old pid.0 ≡ Some p →
         option_map found_info (region_around p.regions range) ≡ Some (record {
           pages = pages;
           kind = view_kind.View view;
         }) }
     requires prot { is_protection_among private_protections prot ≡ true }
-    ensures { CommitsRange G.Pages pid range prot result t.old g.old t.new g.new }
+    ensures { CommitsRange G.PageStore pid range prot result t.old g.old t.new g.new }
 {
     t.sound();
     let area = t.area(view.area);
@@ -175,7 +175,7 @@ fn commit_view<G: Pages>(
 /// that is neither, or a release with a size; `InvalidAddress` where no private region begins at
 /// the address (a release, or size 0), or the pages do not all lie in one.
 #[tactic(auto, using(crate::proofs::Exits::loses_none))]
-pub fn vfree<G: Pages>(
+pub fn vfree<G: PageStore>(
     t: &mut Tables,
     g: &mut G,
     pid: Pid,
@@ -183,10 +183,10 @@ pub fn vfree<G: Pages>(
     size: u32,
     kind: u32,
 ) -> Answer
-    requires begins { BeginsRelease G.Pages pid t.old g.old }
-    ensures done { AnswersCall G.Pages (free t.old pid.0 addr size kind) t.old g.old result t.new
+    requires begins { BeginsRelease G.PageStore pid t.old g.old }
+    ensures done { AnswersCall G.PageStore (free t.old pid.0 addr size kind) t.old g.old result t.new
         g.new }
-    ensures loses { LosesPages G.Pages pid t.old t.new g.old g.new }
+    ensures loses { LosesPages G.PageStore pid t.old t.new g.old g.new }
 {
     if !t.has(pid) {
         return Answer::Error(Code::InvalidHandle);
@@ -234,7 +234,7 @@ fn freed_pages(t: &Tables, pid: Pid, addr: u32, size: u32) -> Option<PageRange>
 /// where the charge of new marks would pass the limit. `NoMemory` comes only where WRITECOPY marks
 /// a page of a view that has no mark yet; then tables and bytes are as before.
 #[tactic(auto, using(mm_store::proofs::Passed::turns_same))]
-pub fn protect<G: Pages>(
+pub fn protect<G: PageStore>(
     t: &mut Tables,
     g: &mut G,
     pid: Pid,
@@ -242,12 +242,12 @@ pub fn protect<G: Pages>(
     size: u32,
     prot: u32,
 ) -> Result<Answer, NoMemory>
-    requires begins { BeginsCall G.Pages t.old g.old }
-    ensures done { IfOk result (λ a. AnswersCall G.Pages (protect t.old pid.0 addr size prot) t.old
+    requires begins { BeginsCall G.PageStore t.old g.old }
+    ensures done { IfOk result (λ a. AnswersCall G.PageStore (protect t.old pid.0 addr size prot) t.old
         g.old a t.new g.new) }
-    ensures broke { OnErr result (LacksMemory G.Pages t.old g.old t.new g.new) }
+    ensures broke { OnErr result (LacksMemory G.PageStore t.old g.old t.new g.new) }
     ensures no_memory { marks_anew t.old pid.0 addr size prot ≡ false → IsOk result }
-    ensures idles { StaysIdle G.Pages g.old g.new }
+    ensures idles { StaysIdle G.PageStore g.old g.new }
 {
     if !t.has(pid) {
         return Ok(Answer::Error(Code::InvalidHandle));
@@ -260,21 +260,21 @@ pub fn protect<G: Pages>(
 
 /// Gives pages of a living process another protection, which a page can have.
 #[tactic(auto, using(mm_store::proofs::Passed::turns_same))]
-fn protect_range<G: Pages>(
+fn protect_range<G: PageStore>(
     t: &mut Tables,
     g: &mut G,
     pid: Pid,
     range: PageRange,
     prot: u32,
 ) -> Result<Answer, NoMemory>
-    requires ready { IsReadyFor G.Pages line_kind.Call pid t.old g.old }
+    requires ready { IsReadyFor G.PageStore line_kind.Call pid t.old g.old }
     requires prot { is_protection_among all_protections prot ≡ true }
-    ensures done { IfOk result (λ a. DecidesIn G.Pages pid (λ p.
+    ensures done { IfOk result (λ a. DecidesIn G.PageStore pid (λ p.
         protect_pages t.old pid.0 p range prot) t.old g.old a t.new g.new) }
-    ensures broke { OnErr result (LacksMemory G.Pages t.old g.old t.new g.new) }
+    ensures broke { OnErr result (LacksMemory G.PageStore t.old g.old t.new g.new) }
     ensures marks { OnErr result ((p : ProcessOf (Unit {0})) → process_of t.old pid.0 ≡ Some p
         → charge t.old < charge (protect_pages t.old pid.0 p range prot).world) }
-    ensures idles { StaysIdle G.Pages g.old g.new }
+    ensures idles { StaysIdle G.PageStore g.old g.new }
 {
     let space = t.space(pid);
     let asked = match space.protect_info(range, prot) {

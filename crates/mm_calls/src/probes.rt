@@ -8,9 +8,9 @@ ghost use Rattle.mm_calls.specs.{grows, guard_lowered, BeginsCall, AnswersCall, 
 ghost use Rattle.mm_object_tables.specs.{IsReadyFor, MakesPages, SettlesTables};
 
 use crate::commit;
-use mm_store::Pages;
 use mm_address_spaces::PageRange;
 use mm_object_tables::{Tables, ThreadStack};
+use mm_store::PageStore;
 use mm_types::{Access, Answer, NoMemory, PAGE_SIZE, Prot, Raise, Tid, permits};
 
 /// Whether a stack cannot grow any more: the page below its guard page is its lowest one, or is not
@@ -36,8 +36,8 @@ fn total_with_one(t: &Tables) -> u32
 /// Commits the page below the guard page of a stack with its guard on, and takes the guard of the
 /// guard page off. After `NoMemory` tables and bytes are as before.
 #[tactic(auto, using(mm_store::proofs::Passed::idle_before))]
-fn grow<G: Pages>(t: &mut Tables, g: &mut G, stack: &ThreadStack) -> Result<(), NoMemory>
-    requires ready { IsReadyFor G.Pages line_kind.Call (record { 0 = stack.now.pid }) t.old g.old }
+fn grow<G: PageStore>(t: &mut Tables, g: &mut G, stack: &ThreadStack) -> Result<(), NoMemory>
+    requires ready { IsReadyFor G.PageStore line_kind.Call (record { 0 = stack.now.pid }) t.old g.old }
     requires committed { (p : ProcessOf (Unit {0})) → process_of t.old stack.now.pid ≡ Some p →
         is_some (committed_at t.old p.regions stack.now.guard_page) ≡ true }
     ensures ok { OnOk result ((p : ProcessOf (Unit {0})) (c : Committed (Unit {0})) →
@@ -45,8 +45,8 @@ fn grow<G: Pages>(t: &mut Tables, g: &mut G, stack: &ThreadStack) -> Result<(), 
         committed_at t.old p.regions stack.now.guard_page ≡ Some c
         → t.new ≡ (alloc blank (guard_off t.old stack.now.pid p c stack.now.guard_page)
         stack.now.pid (address_of (stack.now.guard_page - 1)) 1 commit_type 0x104).world) }
-    ensures settles { SettlesTables G.Pages result t.old t.new g.old g.new }
-    ensures makes { MakesPages G.Pages result g.old g.new }
+    ensures settles { SettlesTables G.PageStore result t.old t.new g.old g.new }
+    ensures makes { MakesPages G.PageStore result g.old g.new }
 {
     t.sound();
     let total = total_with_one(t);
@@ -89,13 +89,18 @@ fn lower(t: &mut Tables, tid: Tid, stack: &ThreadStack) -> Answer
 /// cannot grow, which take that guard off; the guard page moves; `AccessViolation` where the page
 /// permits no read. `NoMemory` comes only where the stack grows; then nothing has changed.
 #[tactic(auto, using(mm_store::proofs::Passed::turns_same))]
-pub fn probe<G: Pages>(t: &mut Tables, g: &mut G, tid: Tid, addr: u32) -> Result<Answer, NoMemory>
-    requires begins { BeginsCall G.Pages t.old g.old }
-    ensures done { IfOk result (λ a. AnswersCall G.Pages (probe blank t.old tid.0 addr) t.old g.old
+pub fn probe<G: PageStore>(
+    t: &mut Tables,
+    g: &mut G,
+    tid: Tid,
+    addr: u32,
+) -> Result<Answer, NoMemory>
+    requires begins { BeginsCall G.PageStore t.old g.old }
+    ensures done { IfOk result (λ a. AnswersCall G.PageStore (probe blank t.old tid.0 addr) t.old g.old
         a t.new g.new) }
-    ensures broke { OnErr result (LacksMemory G.Pages t.old g.old t.new g.new) }
+    ensures broke { OnErr result (LacksMemory G.PageStore t.old g.old t.new g.new) }
     ensures no_memory { grows blank t.old tid.0 addr ≡ false → IsOk result }
-    ensures makes { MakesPages G.Pages result g.old g.new }
+    ensures makes { MakesPages G.PageStore result g.old g.new }
 {
     let stack = match t.stack_of(tid) {
         Some(stack) => stack,

@@ -10,9 +10,9 @@ ghost use Rattle.mm_object_tables.specs.{IsFew, IsReadyFor, MakesPages, PassesAs
 ghost use Rattle.mm_calls.specs.{make_section, BeginsCall, AnswersCall, MakesIn, LacksMemory, StaysSettled};
 
 use crate::parameters::{are_section_flags, are_section_parameters, is_reserve, section_prot};
-use mm_store::Pages;
 use mm_address_spaces::pages_for;
 use mm_object_tables::Tables;
+use mm_store::PageStore;
 use mm_types::{Answer, Area, Code, Name, NoMemory, Pid, SectionId};
 use std::alloc::Global;
 
@@ -25,7 +25,7 @@ use std::alloc::Global;
 /// 0x7FFE0000; `CommitmentLimit` where the charge of a new section's pages would pass the limit.
 /// After `NoMemory`, which none of these comes to, tables and pages are as before.
 #[tactic(auto, using(mm_store::proofs::Passed::turns_same))]
-pub fn create<G: Pages>(
+pub fn create<G: PageStore>(
     allocator: Global,
     t: &mut Tables,
     g: &mut G,
@@ -34,14 +34,14 @@ pub fn create<G: Pages>(
     flags: u32,
     name: Option<Name>,
 ) -> Result<Answer, NoMemory>
-    requires begins { BeginsCall G.Pages t.old g.old }
+    requires begins { BeginsCall G.PageStore t.old g.old }
     requires few { IsFew t.old }
-    ensures done { IfOk result (λ a. AnswersCall G.Pages (create blank t.old pid.0 size flags name)
+    ensures done { IfOk result (λ a. AnswersCall G.PageStore (create blank t.old pid.0 size flags name)
         t.old g.old a t.new g.new) }
-    ensures broke { OnErr result (LacksMemory G.Pages t.old g.old t.new g.new) }
+    ensures broke { OnErr result (LacksMemory G.PageStore t.old g.old t.new g.new) }
     ensures no_memory { is_success (create blank t.old pid.0 size flags name).answer ≡ false
         → IsOk result }
-    ensures makes { MakesPages G.Pages result g.old g.new }
+    ensures makes { MakesPages G.PageStore result g.old g.new }
 {
     if !t.has(pid) {
         return Ok(Answer::Error(Code::InvalidHandle));
@@ -126,11 +126,11 @@ pub fn open_section(t: &mut Tables, pid: Pid, name: &Name) -> Result<Answer, NoM
 ///
 /// `InvalidHandle` for a process that does not live, or has no such handle.
 #[tactic(auto, using(mm_store::proofs::Passed::turns_same))]
-pub fn close<G: Pages>(t: &mut Tables, g: &mut G, pid: Pid, handle: u32) -> Answer
-    requires begins { BeginsCall G.Pages t.old g.old }
-    ensures done { AnswersCall G.Pages (close t.old pid.0 handle) t.old g.old result t.new g.new }
+pub fn close<G: PageStore>(t: &mut Tables, g: &mut G, pid: Pid, handle: u32) -> Answer
+    requires begins { BeginsCall G.PageStore t.old g.old }
+    ensures done { AnswersCall G.PageStore (close t.old pid.0 handle) t.old g.old result t.new g.new }
     ensures passes { (places : Place → Bool) →
-        PassesAs G.Pages (Goes (leaving t.old pid.0 places)) g.old g.new }
+        PassesAs G.PageStore (Goes (leaving t.old pid.0 places)) g.old g.new }
     ensures loans { G.loans g.new ≡ G.loans g.old }
 {
     if !t.has(pid) || t.section_at(pid, handle).is_none() {
@@ -169,7 +169,7 @@ fn add_existing(t: &mut Tables, pid: Pid, id: SectionId) -> Result<Answer, NoMem
 
 /// A new section of the paging file; no section has its name.
 #[tactic(auto, using(mm_store::proofs::Passed::turns_same))]
-fn add_paging_section<G: Pages>(
+fn add_paging_section<G: PageStore>(
     allocator: Global,
     t: &mut Tables,
     g: &mut G,
@@ -178,13 +178,13 @@ fn add_paging_section<G: Pages>(
     flags: u32,
     name: Option<Name>,
 ) -> Result<Answer, NoMemory>
-    requires ready { IsReadyFor G.Pages line_kind.Call pid t.old g.old }
+    requires ready { IsReadyFor G.PageStore line_kind.Call pid t.old g.old }
     requires few { IsFew t.old }
     requires some { 1 ≤ size }
     requires unnamed { option_and_then (section_named t.old) name ≡ None }
-    ensures made { MakesIn G.Pages pid (λ p. make_section t.old pid.0 p size flags name) result
+    ensures made { MakesIn G.PageStore pid (λ p. make_section t.old pid.0 p size flags name) result
         t.old g.old t.new g.new }
-    ensures makes { MakesPages G.Pages result g.old g.new }
+    ensures makes { MakesPages G.PageStore result g.old g.new }
 {
     let pages = pages_for(size);
     let committed = !is_reserve(flags);

@@ -10,9 +10,9 @@ ghost use Rattle.mm_object_tables.specs.{Settled, IsNewPlace, IsNewRange, IsRead
 ghost use Rattle.mm_calls.specs.{IsUncommitted, IsReserved, reserved_region, IsTallEnough, BeginsCall, AnswersCall, LacksMemory, StaysFit};
 ghost use Rattle.mm_calls.specs.{HasRoomFor, MakesInRange, MakesStackPages};
 
-use mm_store::Pages;
 use mm_address_spaces::{PageRange, pages_for};
 use mm_object_tables::{Tables, ThreadStack};
+use mm_store::PageStore;
 use mm_types::{AllocFlags, Answer, Code, GRANULE_PAGES, NoMemory, PAGE_SIZE, Pid, Prot, Tid};
 use std::alloc::Global;
 
@@ -45,7 +45,7 @@ fn commit_pages(size: u32) -> u32
 /// would pass the limit. After each of these, and after `NoMemory`, which none of them comes to,
 /// nothing has changed.
 #[tactic(auto, using(mm_store::proofs::Passed::turns_same))]
-pub fn stack<G: Pages>(
+pub fn stack<G: PageStore>(
     alloc: Global,
     t: &mut Tables,
     g: &mut G,
@@ -54,14 +54,14 @@ pub fn stack<G: Pages>(
     reserve: u32,
     commit: u32,
 ) -> Result<Answer, NoMemory>
-    requires begins { BeginsCall G.Pages t.old g.old }
-    ensures done { IfOk result (λ a. AnswersCall G.Pages
+    requires begins { BeginsCall G.PageStore t.old g.old }
+    ensures done { IfOk result (λ a. AnswersCall G.PageStore
         (stack blank t.old tid.0 pid.0 reserve commit) t.old g.old a t.new g.new) }
-    ensures broke { OnErr result (LacksMemory G.Pages t.old g.old t.new g.new) }
+    ensures broke { OnErr result (LacksMemory G.PageStore t.old g.old t.new g.new) }
     ensures no_memory { is_success (stack blank t.old tid.0 pid.0 reserve commit).answer ≡ false →
         IsOk result }
-    ensures passes { IfOk result (λ a. PassesAs G.Pages (MakesStack (guard_told a)) g.old g.new) }
-    ensures idle { OnErr result ((turn : Turn) → PassesAs G.Pages turn g.old g.new) }
+    ensures passes { IfOk result (λ a. PassesAs G.PageStore (MakesStack (guard_told a)) g.old g.new) }
+    ensures idle { OnErr result ((turn : Turn) → PassesAs G.PageStore turn g.old g.new) }
     ensures loans { G.loans g.new ≡ G.loans g.old }
 {
     if !t.has(pid) {
@@ -120,7 +120,7 @@ fn begin(t: &mut Tables, tid: Tid, pid: Pid, range: PageRange, top: u32) -> Answ
 /// below these, its guard page. The limit allows them. After `NoMemory` tables and bytes are as
 /// before.
 #[tactic(auto, using(mm_store::proofs::Passed::idle_before))]
-fn make_region<G: Pages>(
+fn make_region<G: PageStore>(
     alloc: Global,
     t: &mut Tables,
     g: &mut G,
@@ -128,7 +128,7 @@ fn make_region<G: Pages>(
     range: PageRange,
     top: u32,
 ) -> Result<(), NoMemory>
-    requires ready { IsReadyFor G.Pages line_kind.Call pid t.old g.old }
+    requires ready { IsReadyFor G.PageStore line_kind.Call pid t.old g.old }
     requires new { (p : ProcessOf (Unit {0})) → process_of t.old pid.0 ≡ Some p →
         IsNewPlace p.regions range }
     requires tall { IsTallEnough top range }
@@ -136,8 +136,8 @@ fn make_region<G: Pages>(
     ensures ok { OnOk result ((p : ProcessOf (Unit {0})) → process_of t.old pid.0 ≡ Some p →
         t.new ≡ set_regions t.old pid.0 p
         (add_region (stack_region blank range.first range.count top) p.regions)) }
-    ensures settles { SettlesTables G.Pages result t.old t.new g.old g.new }
-    ensures makes { MakesStackPages G.Pages (range.first + range.count - (top + 1)) result g.old
+    ensures settles { SettlesTables G.PageStore result t.old t.new g.old g.new }
+    ensures makes { MakesStackPages G.PageStore (range.first + range.count - (top + 1)) result g.old
         g.new }
 {
     reserve_region(alloc, t, g, pid, range, top + 1)?;
@@ -148,7 +148,7 @@ fn make_region<G: Pages>(
 /// Reserves free pages for a stack, and takes room for `n` keys more, which the limit allows. After
 /// `NoMemory` tables and bytes are as before.
 #[tactic(auto, using(mm_store::proofs::Passed::turns_same))]
-fn reserve_region<G: Pages>(
+fn reserve_region<G: PageStore>(
     alloc: Global,
     t: &mut Tables,
     g: &mut G,
@@ -156,15 +156,15 @@ fn reserve_region<G: Pages>(
     range: PageRange,
     n: u32,
 ) -> Result<(), NoMemory>
-    requires ready { IsReadyFor G.Pages line_kind.Call pid t.old g.old }
+    requires ready { IsReadyFor G.PageStore line_kind.Call pid t.old g.old }
     requires new { (p : ProcessOf (Unit {0})) → process_of t.old pid.0 ≡ Some p →
         IsNewRange p.regions range }
     requires limit { charge t.old + n ≤ limit t.old }
     ensures ok { OnOk result ((p : ProcessOf (Unit {0})) → process_of t.old pid.0 ≡ Some p →
         t.new ≡ set_regions t.old pid.0 p (add_region (reserved_region range) p.regions)) }
     ensures room { OnOk result (charge t.old + n ≤ (G.store g.new).room) }
-    ensures settles { SettlesTables G.Pages result t.old t.new g.old g.new }
-    ensures idles { StaysIdle G.Pages g.old g.new }
+    ensures settles { SettlesTables G.PageStore result t.old t.new g.old g.new }
+    ensures idles { StaysIdle G.PageStore g.old g.new }
 {
     let (charge, _) = t.charge();
     g.reserve(charge + n)?;
@@ -182,17 +182,17 @@ fn reserve_region<G: Pages>(
 
 /// Commits the top `top` pages of a region of which no page is committed, and makes the page below
 /// them its guard page; there is room for them.
-fn commit_ends<G: Pages>(t: &mut Tables, g: &mut G, pid: Pid, range: PageRange, top: u32)
-    requires begins { BeginsCall G.Pages t.old g.old }
+fn commit_ends<G: PageStore>(t: &mut Tables, g: &mut G, pid: Pid, range: PageRange, top: u32)
+    requires begins { BeginsCall G.PageStore t.old g.old }
     requires reserved { IsReserved t.old pid.0 range }
     requires tall { IsTallEnough top range }
-    requires room { HasRoomFor G.Pages (top + 1) t.old g.old }
+    requires room { HasRoomFor G.PageStore (top + 1) t.old g.old }
     ensures changed { (h : IsReserved t.old pid.0 range) →
         t.new ≡ set_region t.old pid.0 h.process h.place
         (stack_region blank range.first range.count top) }
     ensures settled { Settled t.new (G.contents g.old) (G.contents g.new) (G.store g.old)
         (G.store g.new) }
-    ensures passes { PassesAs G.Pages (MakesStack (range.first + range.count - (top + 1))) g.old
+    ensures passes { PassesAs G.PageStore (MakesStack (range.first + range.count - (top + 1))) g.old
         g.new }
     ensures loans { G.loans g.new ≡ G.loans g.old }
 {
@@ -210,17 +210,17 @@ fn commit_ends<G: Pages>(t: &mut Tables, g: &mut G, pid: Pid, range: PageRange, 
 }
 
 /// Commits pages of a private region of which none is committed; there is room for them.
-fn commit_new<G: Pages>(t: &mut Tables, g: &mut G, pid: Pid, range: PageRange, prot: u32)
-    requires begins { BeginsCall G.Pages t.old g.old }
+fn commit_new<G: PageStore>(t: &mut Tables, g: &mut G, pid: Pid, range: PageRange, prot: u32)
+    requires begins { BeginsCall G.PageStore t.old g.old }
     requires free { IsUncommitted t.old pid.0 range }
     requires prot { is_protection_among private_protections prot ≡ true }
-    requires room { HasRoomFor G.Pages range.count t.old g.old }
+    requires room { HasRoomFor G.PageStore range.count t.old g.old }
     ensures changed { (h : IsUncommitted t.old pid.0 range) →
         t.new ≡ set_region t.old pid.0 h.process h.region.place
         (change_rows (committed_row tt prot) range h.region.thing) }
     ensures settled { Settled t.new (G.contents g.old) (G.contents g.new) (G.store g.old)
         (G.store g.new) }
-    ensures makes { MakesInRange G.Pages range g.old g.new }
+    ensures makes { MakesInRange G.PageStore range g.old g.new }
 {
     let n = range.count;
     let Ok(()) = t.commit(g, pid, range, prot, n) else {

@@ -9,9 +9,9 @@ ghost use Rattle.mm_object_tables.specs.{IsReadyFor, SettlesTables, StaysIdle};
 ghost use Rattle.mm_calls.specs.{are_viewed, place_view, map_section, BeginsCall, BeginsRelease, AnswersCall, MakesIn, LacksMemory, LosesPages};
 
 use crate::parameters::{is_granule_address, may_view, view_access};
-use mm_store::Pages;
 use mm_address_spaces::pages_for;
 use mm_object_tables::Tables;
+use mm_store::PageStore;
 use mm_types::{Answer, Code, Kind, NoMemory, PAGE_SIZE, Pid, View, ViewAccess};
 use std::alloc::Global;
 
@@ -26,7 +26,7 @@ use std::alloc::Global;
 /// `CommitmentLimit` where the charge of a copy view would pass the limit. After `NoMemory`, which
 /// none of these comes to, tables and pages are as before.
 #[tactic(auto, using(mm_store::proofs::Passed::turns_same))]
-pub fn map<G: Pages>(
+pub fn map<G: PageStore>(
     allocator: Global,
     t: &mut Tables,
     g: &mut G,
@@ -37,14 +37,14 @@ pub fn map<G: Pages>(
     view_length: u32,
     addr: u32,
 ) -> Result<Answer, NoMemory>
-    requires begins { BeginsCall G.Pages t.old g.old }
-    ensures done { IfOk result (λ a. AnswersCall G.Pages
+    requires begins { BeginsCall G.PageStore t.old g.old }
+    ensures done { IfOk result (λ a. AnswersCall G.PageStore
         (map_view t.old pid.0 handle access offset view_length addr) t.old g.old a t.new g.new) }
-    ensures broke { OnErr result (LacksMemory G.Pages t.old g.old t.new g.new) }
+    ensures broke { OnErr result (LacksMemory G.PageStore t.old g.old t.new g.new) }
     ensures no_memory { is_success (map_view t.old pid.0 handle access offset view_length
         addr).answer ≡ false
         → IsOk result }
-    ensures idles { StaysIdle G.Pages g.old g.new }
+    ensures idles { StaysIdle G.PageStore g.old g.new }
 {
     if !t.has(pid) {
         return Ok(Answer::Error(Code::InvalidHandle));
@@ -69,7 +69,7 @@ pub fn map<G: Pages>(
 
 /// Maps a view of the section of a handle of a living process.
 #[tactic(auto, using(mm_store::proofs::Passed::turns_same))]
-fn map_handle<G: Pages>(
+fn map_handle<G: PageStore>(
     allocator: Global,
     t: &mut Tables,
     g: &mut G,
@@ -80,12 +80,12 @@ fn map_handle<G: Pages>(
     view_length: u32,
     addr: u32,
 ) -> Result<Answer, NoMemory>
-    requires ready { IsReadyFor G.Pages line_kind.Call pid t.old g.old }
-    ensures made { MakesIn G.Pages pid (λ p.
+    requires ready { IsReadyFor G.PageStore line_kind.Call pid t.old g.old }
+    ensures made { MakesIn G.PageStore pid (λ p.
         find_or t.old code.InvalidHandle (handle_section t.old p handle)
         (λ s. map_section t.old pid.0 p s access offset view_length addr)) result t.old g.old t.new
         g.new }
-    ensures idles { StaysIdle G.Pages g.old g.new }
+    ensures idles { StaysIdle G.PageStore g.old g.new }
 {
     t.sound();
     let section = match t.section_at(pid, handle) {
@@ -134,7 +134,7 @@ fn viewed_pages(total: u32, first: u32, view_length: u32) -> Option<u32>
 
 /// Places a view of `count` pages, which lies within its section.
 #[tactic(auto, using(mm_store::proofs::Passed::turns_same))]
-fn place_view<G: Pages>(
+fn place_view<G: PageStore>(
     allocator: Global,
     t: &mut Tables,
     g: &mut G,
@@ -143,7 +143,7 @@ fn place_view<G: Pages>(
     count: u32,
     addr: u32,
 ) -> Result<Answer, NoMemory>
-    requires ready { IsReadyFor G.Pages line_kind.Call pid t.old g.old }
+    requires ready { IsReadyFor G.PageStore line_kind.Call pid t.old g.old }
     requires section { ViewFits t.old view count }
     requires some { 1 ≤ count }
     requires granule { is_granule_address addr ≡ true }
@@ -157,8 +157,8 @@ fn place_view<G: Pages>(
     ensures succeeds { OnErr result ((p : ProcessOf (Unit {0})) (s : Found SectionOf)
         → process_of t.old pid.0 ≡ Some p
         → is_success (place_view t.old pid.0 p s view.access view.first count addr).answer ≡ true) }
-    ensures settles { SettlesTables G.Pages result t.old t.new g.old g.new }
-    ensures idles { StaysIdle G.Pages g.old g.new }
+    ensures settles { SettlesTables G.PageStore result t.old t.new g.old g.new }
+    ensures idles { StaysIdle G.PageStore g.old g.new }
 {
     let range = match t.space(pid).gap_for_view(addr, count) {
         Some(range) => range,
@@ -190,10 +190,10 @@ fn charged_pages(access: ViewAccess, count: u32) -> u32
 /// `InvalidHandle` for a process that does not live; `InvalidAddress` where no view has the address
 /// as its base, to the byte.
 #[tactic(auto, using(mm_store::proofs::Passed::turns_same))]
-pub fn unmap<G: Pages>(t: &mut Tables, g: &mut G, pid: Pid, addr: u32) -> Answer
-    requires begins { BeginsRelease G.Pages pid t.old g.old }
-    ensures done { AnswersCall G.Pages (unmap t.old pid.0 addr) t.old g.old result t.new g.new }
-    ensures loses { LosesPages G.Pages pid t.old t.new g.old g.new }
+pub fn unmap<G: PageStore>(t: &mut Tables, g: &mut G, pid: Pid, addr: u32) -> Answer
+    requires begins { BeginsRelease G.PageStore pid t.old g.old }
+    ensures done { AnswersCall G.PageStore (unmap t.old pid.0 addr) t.old g.old result t.new g.new }
+    ensures loses { LosesPages G.PageStore pid t.old t.new g.old g.new }
 {
     if !t.has(pid) {
         return Answer::Error(Code::InvalidHandle);

@@ -2,18 +2,18 @@ ghost use Rattle.std.specs.Prelude.{◌≡◌, []};
 ghost use Rattle.mm_types.specs.{Loan};
 
 use crate::plans::Plan;
-use crate::{Blocks, Inject};
+use crate::{BlockDevice, Inject};
 use mm_types::{Direction, Failed, OpenFault};
 
 /// A borrowed device that also fails the calls that were named (own). A named call does not reach
 /// the device; any other is the device's own.
 #[derive(Drop)]
-pub struct Injected<'a, B: Blocks> {
+pub struct Injected<'a, B: BlockDevice> {
     device: &'a mut B,
     plan: Plan,
 }
 
-impl<'a, B: Blocks> Injected<'a, B> {
+impl<'a, B: BlockDevice> Injected<'a, B> {
     /// Over a device. No call is named.
     pub fn new(device: &'a mut B) -> Injected<'a, B>
         ensures same_reference { result.device.ghost_name ≡ device.entry.ghost_name }
@@ -36,7 +36,7 @@ impl<'a, B: Blocks> Injected<'a, B> {
     }
 }
 
-impl<'a, B: Blocks> Inject for Injected<'a, B> {
+impl<'a, B: BlockDevice> Inject for Injected<'a, B> {
     ghost blocks = { λ d. B.blocks d.device.now };
 
     ghost log = { λ d. B.log d.device.now };

@@ -22,7 +22,7 @@ pub use mem_blocks::MemBlocks;
 use mm_types::{Direction, Failed, OpenFault};
 
 /// A device of blocks (own).
-pub trait Blocks {
+pub trait BlockDevice {
     ghost use Rattle.mm_devices.specs.declared.device_calls.DeviceCall.{DeviceCall};
 
     /// The 4,096 bytes of each block.

@@ -8,7 +8,7 @@ ghost use Rattle.mm_devices.specs.Traffic.{Logged, NoneLogged, HasCallCause, Has
 use crate::call_logs::CallLog;
 use crate::fail_lists::FailList;
 use crate::stores::Store;
-use crate::{Blocks, DeviceCall};
+use crate::{BlockDevice, DeviceCall};
 use mm_types::{Direction, Failed, NoMemory, OpenFault};
 use std::alloc::Global;
 
@@ -28,8 +28,8 @@ impl MemBlocks {
     /// A device without blocks, of which the calls in `fails` fail, with room for a log of `log`
     /// calls.
     pub fn new(alloc: Global, fails: Vec<u32>, log: u32) -> Result<MemBlocks, NoMemory>
-        ensures blocks { IfOk result (λ d. ⟦<MemBlocks as Blocks>⟧.blocks d ≡ []) }
-        ensures log { IfOk result (λ d. ⟦<MemBlocks as Blocks>⟧.log d ≡ Some []) }
+        ensures blocks { IfOk result (λ d. ⟦<MemBlocks as BlockDevice>⟧.blocks d ≡ []) }
+        ensures log { IfOk result (λ d. ⟦<MemBlocks as BlockDevice>⟧.log d ≡ Some []) }
         ensures fails { IfOk result (λ d. d.list.fails ≡ fails) }
         ensures calls { IfOk result (λ d. d.list.calls ≡ 0) }
         ensures room { IfOk result (λ d. d.log.room ≡ log) }
@@ -51,29 +51,29 @@ impl MemBlocks {
     /// The reads and writes since it was opened, where there was room for all of them.
     pub fn log(&self) -> Option<&[DeviceCall]>
         ensures some { IfSome result
-            (λ calls. ⟦<MemBlocks as Blocks>⟧.log self.now ≡ Some calls.now) }
-        ensures none { IfNone result (⟦<MemBlocks as Blocks>⟧.log self.now ≡ None) }
+            (λ calls. ⟦<MemBlocks as BlockDevice>⟧.log self.now ≡ Some calls.now) }
+        ensures none { IfNone result (⟦<MemBlocks as BlockDevice>⟧.log self.now ≡ None) }
     {
         self.log.calls()
     }
 
     /// The bytes of block i, counted from 0.
     pub fn block(&self, i: u32) -> &[u8; 4096]
-        requires { i < length (⟦<MemBlocks as Blocks>⟧.blocks self.now) }
-        ensures { slice_get (⟦<MemBlocks as Blocks>⟧.blocks self.now) i ≡ Some result.now }
+        requires { i < length (⟦<MemBlocks as BlockDevice>⟧.blocks self.now) }
+        ensures { slice_get (⟦<MemBlocks as BlockDevice>⟧.blocks self.now) i ≡ Some result.now }
     {
         self.blocks.block(i)
     }
 
     /// How many blocks it has.
     pub fn count(&self) -> usize
-        ensures { result ≡ length (⟦<MemBlocks as Blocks>⟧.blocks self.now) }
+        ensures { result ≡ length (⟦<MemBlocks as BlockDevice>⟧.blocks self.now) }
     {
         self.blocks.count()
     }
 }
 
-impl Blocks for MemBlocks {
+impl BlockDevice for MemBlocks {
     ghost blocks = { λ d. d.blocks };
 
     ghost log = { λ d. told d.log.room d.log.made d.log.calls.items };

@@ -10,7 +10,7 @@ use Rattle.mm_world.specs.{Tables, world_with, process_of}
 use Rattle.mm_world.specs.World.{World}
 use Rattle.mm_world.specs.Report.{Report}
 use Rattle.mm_world.proofs.{Holds, tables}
-use Rattle.mm_store.specs.{StoreOf, changed, Served, SomeFailed, place_at, IsReady, Ghosts as PagesGhosts, Aim, OneMove}
+use Rattle.mm_store.specs.{StoreOf, changed, Served, SomeFailed, place_at, IsReady, Ghosts as PageStoreGhosts, Aim, OneMove}
 use Rattle.mm_store.specs.Reports.{Ends}
 use Rattle.mm_object_tables.specs.{key_bytes, MadeAtMost}
 use Rattle.mm_dispatch.specs.{IsFailure, Named, FlushServed, Refuses, Accessed, Stepped, KeepsTables, LineBegins, Decided, AccessEnded, AccessDone}
@@ -144,7 +144,7 @@ module _ (c : Key → Option Page) (key : Key) where
 
 -- ---- from what the call of the store came to
 
-module _ {G : Type 0} (p : PagesGhosts G) (t : Tables) {after : Tables} {g h : G} (pid : Pid) (addr : ℕ) (what : Attempt) {T : Type 0} (result : Result T PageFault) where
+module _ {G : Type 0} (p : PageStoreGhosts G) (t : Tables) {after : Tables} {g h : G} (pid : Pid) (addr : ℕ) (what : Attempt) {T : Type 0} (result : Result T PageFault) where
   module _ (need : Need) (needs : need_at (world_over p t g) pid.0 addr what ≡ Some need) (ends : Ends need (p.store h).report result) {Moved : Behind → List Move → Behind → Type 0} (e : AccessEnded p Moved (place_at pid (page_of addr)) need result after g h) (tells : Tells (aim_for p (place_at pid (page_of addr)) need (is_write what) g) (IsReady (p.store g) (place_at pid (page_of addr)) need) result Moved) (v : Tables) (fits : FitsOver p v h) (few : MadeAtMost (p.store g).line v) where
     aims : aim_over p t g pid addr what ≡ Some (aim_for p (place_at pid (page_of addr)) need (is_write what) g)
     aims = aim-needs (world_over p t g) (p.behind g).life pid addr what need needs
@@ -197,7 +197,7 @@ is-plain pid addr (ReadOf len) = search rules
 is-plain pid addr (WriteOf bytes) = search rules
 is-plain pid addr Execute = search rules
 
-module _ {G : Type 0} (p : PagesGhosts G) (pid : Pid) (addr : ℕ) (what : Attempt) {n : ℕ} {t : Tables} {g m : G} {lived : Bool} (on : StartsOn p n t pid (kind.Access pid) lived g m) where
+module _ {G : Type 0} (p : PageStoreGhosts G) (pid : Pid) (addr : ℕ) (what : Attempt) {n : ℕ} {t : Tables} {g m : G} {lived : Bool} (on : StartsOn p n t pid (kind.Access pid) lived g m) where
   abbrev e : Event
   e = access_line pid addr what
 

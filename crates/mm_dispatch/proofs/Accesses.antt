@@ -8,7 +8,7 @@ use Rattle.mm_world.specs.{Attempt, ReadOf, WriteOf, Execute, access, access_at,
 use Rattle.mm_world.specs.{Need, need_of, copies, same_key, OutcomeOf, done, find_or, need_at, store_line, Tables, row_with, process_with, world_with}
 use Rattle.mm_world.specs.{Spaces}
 use Rattle.mm_world.specs.World.{World}
-use Rattle.mm_store.specs.{touch, place_at, copying, IsReady, MayAccess, IsBegun, started, StoreOf, Ghosts as PagesGhosts}
+use Rattle.mm_store.specs.{touch, place_at, copying, IsReady, MayAccess, IsBegun, started, StoreOf, Ghosts as PageStoreGhosts}
 use Rattle.mm_object_tables.specs.{CommittedRow, is_own, MadeAtMost, key_at}
 use Rattle.mm_dispatch.specs.{Refuses, Admits, Marks, CanAccess, CanTurn, row_need, LineBegins, KeepsOver}
 use Rattle.mm_world.proofs.{IsCommitted, committed_is, HomeCases, IsOwn, IsShared, home_cases}
@@ -327,12 +327,12 @@ is-begun b =
     }
 
 -- admitting it left the tables as they were
-pub can-access : {G : Type 0} (p : PagesGhosts G) (kind : Access) (t after : Tables) (pid : Pid) (addr : ℕ) (row : CommittedRow) (need : Need) (g : G) → after ≡ t → KeepsOver p t g → Spaces t → Admits t pid.0 addr kind row → key_at t (place_at pid (page_of addr)) ≡ Some row.key → MayAccess (p.store g) (place_at pid (page_of addr)) need → IsBegun (p.store g).report → CanAccess p kind after pid addr row need g
+pub can-access : {G : Type 0} (p : PageStoreGhosts G) (kind : Access) (t after : Tables) (pid : Pid) (addr : ℕ) (row : CommittedRow) (need : Need) (g : G) → after ≡ t → KeepsOver p t g → Spaces t → Admits t pid.0 addr kind row → key_at t (place_at pid (page_of addr)) ≡ Some row.key → MayAccess (p.store g) (place_at pid (page_of addr)) need → IsBegun (p.store g).report → CanAccess p kind after pid addr row need g
 can-access p kind t after pid addr row need g same keeps spaces admitted at may begun =
     subst (λ (v : Tables). CanAccess p kind v pid addr row need g) (sym same) assumption
 
 -- the same for a thread, once the store has what it needs
-pub can-go-on : {G : Type 0} (p : PagesGhosts G) (kind : Access) (t after : Tables) (pid : Pid) (addr : ℕ) (row : CommittedRow) (need : Need) (g h : G) → after ≡ t → CanTurn p t pid g → Spaces t → Admits t pid.0 addr kind row → key_at t (place_at pid (page_of addr)) ≡ Some row.key → p.store h ≡ started (p.store g) (p.store h) → KeepsOver p t h → IsReady (p.store h) (place_at pid (page_of addr)) need → CanAccess p kind after pid addr row need h
+pub can-go-on : {G : Type 0} (p : PageStoreGhosts G) (kind : Access) (t after : Tables) (pid : Pid) (addr : ℕ) (row : CommittedRow) (need : Need) (g h : G) → after ≡ t → CanTurn p t pid g → Spaces t → Admits t pid.0 addr kind row → key_at t (place_at pid (page_of addr)) ≡ Some row.key → p.store h ≡ started (p.store g) (p.store h) → KeepsOver p t h → IsReady (p.store h) (place_at pid (page_of addr)) need → CanAccess p kind after pid addr row need h
 can-go-on p kind t after pid addr row need g h same can spaces admitted at e keeps ready =
     can-access p kind t after pid addr row need h same keeps spaces admitted at (inr (ap (λ (s : StoreOf). s.kind) e ∙ can.form, ready))
     (record {

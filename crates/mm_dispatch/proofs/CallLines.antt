@@ -10,7 +10,7 @@ use Rattle.mm_world.proofs.{Holds, numbered_inside}
 use Rattle.mm_types.proofs.{on_err, and_false}
 use Rattle.mm_devices.specs.{DeviceOf}
 use Rattle.mm_store.specs.Behind.{Behind}
-use Rattle.mm_store.specs.{Turn, AllTurn, Turned, Turns, StoreOf, Ghosts as PagesGhosts, leaving, page_rank, Makes, OneMove, Trims, AgesAll, Flushes}
+use Rattle.mm_store.specs.{Turn, AllTurn, Turned, Turns, StoreOf, Ghosts as PageStoreGhosts, leaving, page_rank, Makes, OneMove, Trims, AgesAll, Flushes}
 use Rattle.mm_store.specs.{PassesIn, Notes, NotesIn, Goes}
 use Rattle.mm_line_moves.specs.{kind_of_line, Does, HoldsBeside, asks_beside, with_line, lives, if_lives, made_process, kind_of_growth, GivesUp, Trimming}
 use Rattle.mm_line_moves.specs.{keeps_for}
@@ -37,7 +37,7 @@ use Rattle.mm_types.specs.declared.answers.Answer.TheVariants as answer
 use Rattle.mm_types.specs.declared.events.Event.TheVariants as event
 
 -- of a store that pages: its moves, behind an `at` of this kind
-abbrev pub WentAs : {G : Type 0} → LineKind → PagesGhosts G → Event → ℕ → Tables → G → Answer → Tables → G → Type 0
+abbrev pub WentAs : {G : Type 0} → LineKind → PageStoreGhosts G → Event → ℕ → Tables → G → Answer → Tables → G → Type 0
 WentAs k p e n t g a after h =
     LineWent false (move.At n k) (λ ms. TellsLine n k e (world_over p t g) a (world_over p after h) (p.store h).report (p.behind g) ms (p.behind h)) (p.store g) (p.store h) (p.behind g) (p.behind h)
 
@@ -53,7 +53,7 @@ pub record IsCall (k : LineKind) (old_world : World) (e : Event) : Type 0 where
   pub asked : (used : ℕ) (a : Answer) (paging paging' files files' : DeviceOf) (blocks blocks' : List Page) → AskedBeside used e a paging paging' files files' blocks blocks'
   pub held : (a : Answer) (slots slots' blocks blocks' : List Page) → HoldsBeside old_world e a slots slots' blocks blocks'
 
-module _ {G : Type 0} (p : PagesGhosts G) {n : ℕ} {t : Tables} {g m : G} {e f : Event} (said : f ≡ e) {k first : LineKind} (is : IsCall k (world_over p t g) e) (next : IsNext p n t g) (starts : StartsLine p n first g m) where
+module _ {G : Type 0} (p : PageStoreGhosts G) {n : ℕ} {t : Tables} {g m : G} {e f : Event} (said : f ≡ e) {k first : LineKind} (is : IsCall k (world_over p t g) e) (next : IsNext p n t g) (starts : StartsLine p n first g m) where
   abbrev old_world : World
   old_world = world_over p t g
 
@@ -92,7 +92,7 @@ module _ {G : Type 0} (p : PagesGhosts G) {n : ℕ} {t : Tables} {g m : G} {e f 
 
 -- ---- a line that begins as a call
 
-module _ {G : Type 0} (p : PagesGhosts G) {n : ℕ} {t : Tables} {g m : G} {e f : Event} (said : f ≡ e) (is : IsCall kind.Call (world_over p t g) e) (next : IsNext p n t g) (call : StartsCall p n t g m) {q : OutcomeOf (Unit {0})} (across : AcrossBytes t (key_bytes (p.contents g)) q (unpaged (world_over p t g) e)) (makes : Holds (MakesFew t) q) where
+module _ {G : Type 0} (p : PageStoreGhosts G) {n : ℕ} {t : Tables} {g m : G} {e f : Event} (said : f ≡ e) (is : IsCall kind.Call (world_over p t g) e) (next : IsNext p n t g) (call : StartsCall p n t g m) {q : OutcomeOf (Unit {0})} (across : AcrossBytes t (key_bytes (p.contents g)) q (unpaged (world_over p t g) e)) (makes : Holds (MakesFew t) q) where
   abbrev at : Move
   at = move.At n kind.Call
 
@@ -178,7 +178,7 @@ module _ (t : Tables) (old : Key → Option Page) (after : Tables) (new : Key �
 
 -- ---- such lines over a store
 
-module _ {G : Type 0} (p : PagesGhosts G) {n : ℕ} {t : Tables} (pid : Pid) {e f : Event} (said : f ≡ e) {g m : G} where
+module _ {G : Type 0} (p : PageStoreGhosts G) {n : ℕ} {t : Tables} (pid : Pid) {e f : Event} (said : f ≡ e) {g m : G} where
   pub releases-call : IsCall (if_lives (world_over p t g) pid (kind.Unbind pid)) (world_over p t g) e → IsNext p n t g → StartsRelease p n t pid g m → {q : OutcomeOf (Unit {0})} → AcrossBytes t (key_bytes (p.contents g)) q (unpaged (world_over p t g) e) → Holds (MakesFew t) q
       → {a : Answer} {after : Tables} {h : G}
       → ((k : LineKind) (ms : List Move) → GivesUp (world_over p t g) pid (world_over p after h) (with_line (move.At n k) (p.behind g)).life ms → Does (world_over p t g) e a (world_over p after h) (p.store h).report (with_line (move.At n k) (p.behind g)) ms (p.behind h))

@@ -14,7 +14,7 @@ use Rattle.mm_world.specs.World.{World}
 use Rattle.mm_world.specs.WellFormed.{WellFormed}
 use Rattle.mm_world.proofs.{flush_across, new_file_across, each-at, found_stands}
 use Rattle.mm_types.proofs.{parts, less}
-use Rattle.mm_store.specs.{StoreOf, with_named, with_named_paging, Makes, Turns, OneMove, PassesIn, NotesIn, WritesFile, Ghosts as PagesGhosts}
+use Rattle.mm_store.specs.{StoreOf, with_named, with_named_paging, Makes, Turns, OneMove, PassesIn, NotesIn, WritesFile, Ghosts as PageStoreGhosts}
 use Rattle.mm_object_tables.specs.{key_bytes, file_block_in, BlocksHold, NamesAtMostOne, file_told, flush_told, IsTidy, beside_file, extended}
 use Rattle.mm_dispatch.specs.{FlushHolds, FlushServed, NamedOn, Stepped, LineBegins, Devices, WritesBlocks, FileWrites, AskedBeside, AskedBesideOver}
 use Rattle.mm_dispatch.specs.{StartsLine}
@@ -293,7 +293,7 @@ module _ (w : World) (used n number : ℕ) (u : Bool) (s z : StoreOf) (b c : Beh
   beside-grow {E} (Ok a) e grew p = grew-by E a e grew p
   beside-grow (Err x) e grew p = tt
 
-pub beside-fail : {G : Type 0} (p : PagesGhosts G) (t : Tables) (device : Device) (direction : Direction) (k n : ℕ) (a : Answer) {number : ℕ} {form : LineKind} {g m : G} → StartsLine p number form g m → (h : G)
+pub beside-fail : {G : Type 0} (p : PageStoreGhosts G) (t : Tables) (device : Device) (direction : Direction) (k n : ℕ) (a : Answer) {number : ℕ} {form : LineKind} {g m : G} → StartsLine p number form g m → (h : G)
     → p.unpaged ≡ false → (p.store h).file_blocks ≡ (p.store m).file_blocks → p.behind h ≡ p.behind m → AskedBesideOver p t (line.Fail device direction k n) a g h
 beside-fail p t device direction k n a {number} {form} {g} {m} starts h paging blocks same =
     (tt, (ap (λ (b : Behind). b.slots) same ∙ begun-slots p.unpaged (move.At number form) (p.store g) (p.store m) (p.behind g) (p.behind m) paging starts.passes, blocks ∙ starts.begins.blocks))

@@ -10,7 +10,7 @@ use Rattle.mm_world.specs.World.{World}
 use Rattle.mm_world.specs.{Attempt, Need, BeingRead, need_at, Tables}
 use Rattle.mm_world.specs.Report.{Report}
 use Rattle.mm_store.specs.{StoreOf, changed, same_place, place_at, PassesIn, Aim, AccessMoves, Forgets, wait_begun, walk_from, OneMove, NoMove}
-use Rattle.mm_store.specs.{AccessMove, Ghosts as PagesGhosts}
+use Rattle.mm_store.specs.{AccessMove, Ghosts as PageStoreGhosts}
 use Rattle.mm_store.specs.Behind.{Behind}
 use Rattle.mm_store.proofs.{Joins, passes_then}
 use Rattle.mm_line_moves.specs.{aim_at, aim_of, is_write, kind_of_line, Accesses, AccessesBy, Does, ages_of_line, waits_of_line, awaited, is_had}
@@ -308,7 +308,7 @@ marked_lined plain w e n a v u s z b c accesses p paging =
     }))
 
 -- such a line over a store, told of the line that it is
-module _ {G : Type 0} (p : PagesGhosts G) where
+module _ {G : Type 0} (p : PageStoreGhosts G) where
   pub access_marked : (plain : Bool) (e f : Event) → f ≡ e → asks_beside e ≡ false → (n : ℕ) (t : Tables) (x : G) (a : Answer) (after : Tables) (y : G)
       → ((d : Behind) (ms : List Move) → Does (world_over p t x) e a (world_over p after y) (p.store y).report d ms (p.behind y) → AccessesBy plain (aim_of (world_over p t x) d.life e) a (p.store y).report d ms (p.behind y))
       → PassesOver p (Lined (world_over p t x) e n a (world_over p after y) (p.store y).report) x y → MarkedOver p f n t x a after y

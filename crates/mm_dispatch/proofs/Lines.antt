@@ -4,7 +4,7 @@ use Rattle.std.proofs.lemmas.List.{length-map}
 use Rattle.mm_types.specs.{Answer, Event, Key, LineKind, NoMemory}
 use Rattle.mm_devices.specs.{one_further, DeviceOf, Call, AllServed}
 use Rattle.mm_world.specs.Report.{Report}
-use Rattle.mm_store.specs.{tallied, StoreOf, Served, SomeFailed, rearranged, pid_after, begun, Ghosts as PagesGhosts}
+use Rattle.mm_store.specs.{tallied, StoreOf, Served, SomeFailed, rearranged, pid_after, begun, Ghosts as PageStoreGhosts}
 use Rattle.mm_object_tables.specs.{store_beside, FitsTables, key_bytes, Called, MadeAtMost}
 use Rattle.mm_dispatch.specs.{IsFailure, FailedBefore, Named, OneFailed, LineBegins, Devices, FlushServed, Stepped, KeepsTables, Decided, IsNext}
 use Rattle.mm_dispatch.specs.{StartsLine, DecidedOver, FitsOver, is_plain_kind, world_over, Idle, HaltedOver, IdleOver, MarkedOver, AnswersLine}
@@ -201,7 +201,7 @@ pub one-later : (t : Tables) (n : ℕ) → MadeAtMost n t → MadeAtMost (n + 1)
 one-later t n h = record { sections = omega (arith, h.sections); areas = omega (arith, h.areas); handles = λ pid p lives. omega (arith, h.handles pid p lives) }
 
 -- a line after which tables and bytes are those before
-pub decided-same : {G : Type 0} (p : PagesGhosts G) {n : ℕ} {k : LineKind} {t : Tables} {g x y : G} → IsNext p n t g → StartsLine p n k g x → (e : Event) (a : Answer) → Quiet (p.store x) (p.store y) → p.contents y ≡ p.contents x → told (world_over p t g) e (p.store g).report (p.store y).report ≡ None → unpaged (world_over p t g) e ≡ done a (world_over p t g) → (IsFailure a → ⊥)
+pub decided-same : {G : Type 0} (p : PageStoreGhosts G) {n : ℕ} {k : LineKind} {t : Tables} {g x y : G} → IsNext p n t g → StartsLine p n k g x → (e : Event) (a : Answer) → Quiet (p.store x) (p.store y) → p.contents y ≡ p.contents x → told (world_over p t g) e (p.store g).report (p.store y).report ≡ None → unpaged (world_over p t g) e ≡ done a (world_over p t g) → (IsFailure a → ⊥)
     → Named p.unpaged e a (p.store g).paging_device (p.store y).paging_device (p.store g).file_device (p.store y).file_device → FlushServed (world_over p t y) (p.store y).file_blocks e a → FitsOver p t y → DecidedOver p e n t g a t y
 decided-same p {n = n} {t} {g} {x} {y} next starts e a quiet same none outcome fine named flushed fits =
     decided-quiet p.unpaged e n t (p.contents g) (p.store g) (p.store x) a t (p.contents y) (p.store y) next.line_is starts.begins quiet none
@@ -284,19 +284,19 @@ idle-grown contents e tables =
 
 -- ---- both parts of what is promised
 
-module _ {G : Type 0} (p : PagesGhosts G) (e : Event) (n : ℕ) (t : Tables) (g : G) where
+module _ {G : Type 0} (p : PageStoreGhosts G) (e : Event) (n : ℕ) (t : Tables) (g : G) where
   pub answers-line : (r : Result Answer NoMemory) (after : Tables) (h : G) → IfOk r (λ a. DecidedOver p e n t g a after h) → IfOk r (λ a. MarkedOver p e n t g a after h) → IfOk r (λ a. AnswersLine p e n t g a after h)
   answers-line (Ok a) after h decided marked = record { decided = decided; marked = marked }
   answers-line (Err x) after h decided marked = tt
 
-module _ {G : Type 0} (p : PagesGhosts G) (n : ℕ) (t : Tables) (g : G) where
+module _ {G : Type 0} (p : PageStoreGhosts G) (n : ℕ) (t : Tables) (g : G) where
   pub halts-line : (r : Result Answer NoMemory) (after : Tables) (h : G) → OnErr r (IdleOver p t g after h) → OnErr r (HaltedOver p n g h) → OnErr r (HaltsLine p n t g after h)
   halts-line (Ok a) after h idle halted = tt
   halts-line (Err x) after h idle halted = record { idle = idle; halted = halted }
 
 -- ---- said of the event that it is
 
-module _ {G : Type 0} (p : PagesGhosts G) {line : ℕ} {t : Tables} {g : G} {e f : Event} where
+module _ {G : Type 0} (p : PageStoreGhosts G) {line : ℕ} {t : Tables} {g : G} {e f : Event} where
   -- of a line that cannot run out of memory
   pub answered : e ≡ f → {T : Type 0} {given : T → Answer} {v : T} {after : Tables} {h : G} → AnswersLine p f line t g (given v) after h → EndsWaits t f (given v) (p.store h).report → (p.unpaged ≡ false → AskedBesideOver p t f (given v) g h) → p.loans h ≡ p.loans g
       → TakesLine p e line t g given (Ok v) after h

@@ -6,7 +6,7 @@ use Rattle.mm_world.specs.{Page, done, failed_calls, step, stepped, when, Tables
 use Rattle.mm_world.specs.{is_failed_extension}
 use Rattle.mm_world.specs.World.{World}
 use Rattle.mm_world.specs.Report.{Report}
-use Rattle.mm_store.specs.{StoreOf, Ready, Served, SomeFailed, completed, Completes, CompletesAs, NoMove, OneMove, Ghosts as PagesGhosts, begun}
+use Rattle.mm_store.specs.{StoreOf, Ready, Served, SomeFailed, completed, Completes, CompletesAs, NoMove, OneMove, Ghosts as PageStoreGhosts, begun}
 use Rattle.mm_object_tables.specs.{FitsTables, key_bytes, extended, grow_told}
 use Rattle.mm_dispatch.specs.{IsFailure, Named, FlushServed, asks_frames, IsNext, StartsLine, AnswersLine, MarkedOver, PassesOver, DecidedOver, FitsOver}
 use Rattle.mm_dispatch.specs.{world_over, KeepsTables, Decided}
@@ -22,7 +22,7 @@ use Rattle.mm_types.specs.declared.moves.LineKind.TheVariants as kind
 use Rattle.mm_types.specs.declared.moves.Move.TheVariants as move
 use Rattle.mm_store.specs.declared.outcomes.Done.TheVariants as ended
 
-module _ {G : Type 0} (p : PagesGhosts G) {n : ℕ} {k : LineKind} {t : Tables} {g x : G} (y : G) (next : IsNext p n t g) (starts : StartsLine p n k g x) (same : p.contents y ≡ p.contents x) where
+module _ {G : Type 0} (p : PageStoreGhosts G) {n : ℕ} {k : LineKind} {t : Tables} {g x : G} (y : G) (next : IsNext p n t g) (starts : StartsLine p n k g x) (same : p.contents y ≡ p.contents x) where
   abbrev w : World
   w = world_over p t g
 

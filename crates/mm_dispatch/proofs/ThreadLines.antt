@@ -9,7 +9,7 @@ use Rattle.mm_world.specs.{process_with}
 use Rattle.mm_world.specs.World.{World}
 use Rattle.mm_world.specs.Report.{Report}
 use Rattle.mm_dispatch.proofs.With.{process-with}
-use Rattle.mm_store.specs.{StoreOf, Served, SomeFailed, changed, Aim, Forgets, OneMove, Ghosts as PagesGhosts}
+use Rattle.mm_store.specs.{StoreOf, Served, SomeFailed, changed, Aim, Forgets, OneMove, Ghosts as PageStoreGhosts}
 use Rattle.mm_object_tables.specs.{key_bytes}
 use Rattle.mm_dispatch.specs.{IsFailure, Named, FlushServed, FailedBefore, Refuses, Waits, AccessMade, Permitted, Stepped, KeepsTables, LineBegins}
 use Rattle.mm_dispatch.specs.{Decided, BeginsThread, EndsAccess, TurnsAccess, MadeBy, WaitsBy, RefusedBy, FailedBy, aim_in, waited, AnswersLine}
@@ -211,7 +211,7 @@ idle_either b = cond_both b Idle Idle (λ w. w ≡ Idle) (λ e. refl) (λ e. ref
 
 -- ---- `begin`
 
-module _ {G : Type 0} (p : PagesGhosts G) {n : ℕ} {tid : Tid} {pid : Pid} {busy lived : Bool} {t : Tables} {g x : G} (what : AccessSpec) (begun : BeginsThread p n tid pid busy lived t g x) where
+module _ {G : Type 0} (p : PageStoreGhosts G) {n : ℕ} {tid : Tid} {pid : Pid} {busy lived : Bool} {t : Tables} {g x : G} (what : AccessSpec) (begun : BeginsThread p n tid pid busy lived t g x) where
   abbrev w : World
   w = world_over p t g
 
@@ -308,7 +308,7 @@ module _ {G : Type 0} (p : PagesGhosts G) {n : ℕ} {tid : Tid} {pid : Pid} {bus
 
 -- ---- `resume`
 
-module _ {G : Type 0} (p : PagesGhosts G) {n : ℕ} (tid : Tid) (t : Tables) {form : LineKind} {g x : G} (starts : StartsLine p n form g x) where
+module _ {G : Type 0} (p : PageStoreGhosts G) {n : ℕ} (tid : Tid) (t : Tables) {form : LineKind} {g x : G} (starts : StartsLine p n form g x) where
   abbrev before : World
   before = world_over p t g
 

@@ -8,7 +8,7 @@ use Rattle.mm_move_rules.specs.{is_wrote_move, takes_frame}
 use Rattle.mm_world.specs.{Page, BeingRead, Attempt, access_of, Tables, world_with, Need, pending, need_at}
 use Rattle.mm_world.specs.Report.{Report}
 use Rattle.mm_store.specs.{StoreOf, changed, PassesIn, StandsIn, Aim, AccessMove, Starts, walk_from, place_at, waits_at_once, IsReady, started}
-use Rattle.mm_store.specs.{Ghosts as PagesGhosts}
+use Rattle.mm_store.specs.{Ghosts as PageStoreGhosts}
 use Rattle.mm_store.specs.Behind.{Behind}
 use Rattle.mm_store.proofs.{passes_then, waits_then, ages_then, accesses_then}
 use Rattle.mm_line_moves.specs.{place_had, is_write}
@@ -96,7 +96,7 @@ started_waits u aim a is tid why s z b c awaited p =
 
 -- ---- by what its line's store and tables said of it
 
-module _ {G : Type 0} (p : PagesGhosts G) (what : Attempt) (tid : ℕ) (pid : Pid) (addr : ℕ) (failed : Bool) (t : Tables) (g : G) where
+module _ {G : Type 0} (p : PageStoreGhosts G) (what : Attempt) (tid : ℕ) (pid : Pid) (addr : ℕ) (failed : Bool) (t : Tables) (g : G) where
   abbrev w : World
   w = world_over p t g
 

@@ -8,7 +8,7 @@ use Rattle.mm_types.specs.declared.protections.Access.TheVariants as access_kind
 use Rattle.mm_move_rules.specs.{is_thread}
 use Rattle.mm_world.specs.{Attempt, ReadOf, WriteOf, Execute, Tables, Need, process_of, private_key, keep, kept_by, Spaces}
 use Rattle.mm_store.specs.{Aim, Touches, Copies, Starts, Forgets, place_at, touch, copying, IsReady, MayAccess, waits_at_once, IsBegun, Served}
-use Rattle.mm_store.specs.{SomeFailed, started, Ghosts as PagesGhosts}
+use Rattle.mm_store.specs.{SomeFailed, started, Ghosts as PageStoreGhosts}
 use Rattle.mm_store.specs.Behind.{Behind}
 use Rattle.mm_store.specs.declared.outcomes.Start.TheVariants as start
 use Rattle.mm_object_tables.specs.{CommittedRow, key_at}
@@ -39,7 +39,7 @@ row_need access_kind.Write row place =
 row_need access_kind.Read row place = touch row.key
 row_need access_kind.Execute row place = touch row.key
 
-module _ {G : Type 0} (p : PagesGhosts G) where
+module _ {G : Type 0} (p : PageStoreGhosts G) where
   -- ---- at a place
 
   -- the place has this key, and may be accessed for this need, over a store that fits the tables

@@ -7,7 +7,7 @@ use Rattle.mm_types.specs.declared.moves.Move.TheVariants as move
 use Rattle.mm_script.specs.{IsWellFormed}
 use Rattle.mm_world.specs.{Tables, blank, process_of}
 use Rattle.mm_world.specs.WellFormed.{WellFormed}
-use Rattle.mm_store.specs.{OneMove, Ghosts as PagesGhosts}
+use Rattle.mm_store.specs.{OneMove, Ghosts as PageStoreGhosts}
 use Rattle.mm_object_tables.specs.{IsTidy}
 use Rattle.mm_dispatch.specs.Built.{is_machine, takes_memory}
 use Rattle.mm_dispatch.specs.Deciding.{LineBegins}
@@ -15,7 +15,7 @@ use Rattle.mm_dispatch.specs.Forgetting.{EndsWaits}
 use Rattle.mm_dispatch.specs.Over.{AskedBesideOver, DecidedOver, HaltedOver, IdleOver, KeepsOver, MarkedOver}
 use Rattle.mm_dispatch.specs.Over.{PassesOver}
 
-module _ {G : Type 0} (p : PagesGhosts G) where
+module _ {G : Type 0} (p : PageStoreGhosts G) where
   -- the line has the next number, over a store that fits the tables
   pub record IsNext (line : ℕ) (t : Tables) (g : G) : Type 0 where
     pub keeps : KeepsOver p t g

@@ -4,7 +4,7 @@ use Rattle.std.specs.Prelude.{ℕ, List, Option}
 use Rattle.mm_types.specs.{Answer, Event, Move, Pid}
 use Rattle.mm_world.specs.World.{World}
 use Rattle.mm_world.specs.{Tables, world_with, Attempt}
-use Rattle.mm_store.specs.{Aim, PassesIn, Ghosts as PagesGhosts}
+use Rattle.mm_store.specs.{Aim, PassesIn, Ghosts as PageStoreGhosts}
 use Rattle.mm_store.specs.Behind.{Behind}
 use Rattle.mm_line_moves.specs.{HoldsBeside}
 use Rattle.mm_object_tables.specs.{FitsTables, key_bytes}
@@ -13,7 +13,7 @@ use Rattle.mm_dispatch.specs.Deciding.{KeepsTables, Decided, Idle}
 use Rattle.mm_dispatch.specs.Noting.{MarkedIn, HaltedIn}
 use Rattle.mm_dispatch.specs.Answering.{aim_in}
 
-module _ {G : Type 0} (p : PagesGhosts G) where
+module _ {G : Type 0} (p : PageStoreGhosts G) where
   -- the world of these tables, with the store's bytes in its pages
   abbrev pub world_over : Tables → G → World
   world_over t g = world_with t (key_bytes (p.contents g))

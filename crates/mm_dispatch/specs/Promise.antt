@@ -9,7 +9,7 @@ use Rattle.mm_world.specs.World.{World}
 use Rattle.mm_world.specs.Report.{Report}
 use Rattle.mm_devices.specs.{DeviceOf}
 use Rattle.mm_store.specs.Behind.{Behind}
-use Rattle.mm_store.specs.{StoreOf, Ghosts as PagesGhosts}
+use Rattle.mm_store.specs.{StoreOf, Ghosts as PageStoreGhosts}
 use Rattle.mm_line_moves.specs.{Line, Broken}
 use Rattle.mm_object_tables.specs.{key_bytes, IsTidy}
 use Rattle.mm_dispatch.specs.declared.worlds.World.{World as Kept}
@@ -38,7 +38,7 @@ scene_of t contents s b = record {
   behind = b;
 }
 
-module _ {G : Type 0} {g : PagesGhosts G} where
+module _ {G : Type 0} {g : PageStoreGhosts G} where
   abbrev pub scene : Kept G g → Scene
   scene w = scene_of w.tables (g.contents w.pages) (g.store w.pages) (g.behind w.pages)
 

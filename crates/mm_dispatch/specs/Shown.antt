@@ -6,12 +6,12 @@ use Rattle.mm_world.specs.{Page, world_with}
 use Rattle.mm_world.specs.World.{World}
 use Rattle.mm_world.specs.Report.{Report}
 use Rattle.mm_store.specs.Behind.{Behind}
-use Rattle.mm_store.specs.{Ghosts as PagesGhosts}
+use Rattle.mm_store.specs.{Ghosts as PageStoreGhosts}
 use Rattle.mm_devices.specs.{DeviceOf}
 use Rattle.mm_object_tables.specs.{key_bytes}
 use Rattle.mm_dispatch.specs.declared.worlds.World.{World as Kept}
 
-module _ {G : Type 0} {g : PagesGhosts G} where
+module _ {G : Type 0} {g : PageStoreGhosts G} where
   -- the tables, and in each live key's page the store's bytes
   abbrev pub world : Kept G g → World
   world w = world_with w.tables (key_bytes (g.contents w.pages))

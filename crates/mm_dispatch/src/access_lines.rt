@@ -10,13 +10,13 @@ ghost use Rattle.mm_dispatch.specs.{Admits, Marks, AnswersLine, IsNext, LieInPag
 use crate::beginning::begin_on;
 use crate::fetching::{fetch, put, put_copy, read_bytes};
 use crate::refusals::admit;
-use mm_store::Pages;
 use mm_object_tables::{CommittedRow, Tables};
+use mm_store::PageStore;
 use mm_types::{Access, Answer, ByteBuf, Code, LineKind, PAGE_SIZE, Pid, Raise};
 
 /// Reads 1 to 64 bytes, which the row of their page permits.
 #[inline(always)]
-pub(crate) fn read_at<G: Pages>(
+pub(crate) fn read_at<G: PageStore>(
     t: &Tables,
     g: &mut G,
     pid: Pid,
@@ -25,10 +25,10 @@ pub(crate) fn read_at<G: Pages>(
     len: u32,
     answer: &mut Answer,
 )
-    requires can { CanAccess G.Pages access_kind.Read t.now pid addr row (touch row.key) g.old }
+    requires can { CanAccess G.PageStore access_kind.Read t.now pid addr row (touch row.key) g.old }
     requires some { 1 ≤ len }
     requires lie { LieInPage addr len }
-    ensures done { AccessDone G.Pages (ReadOf len) pid addr (touch row.key) t.now g.old
+    ensures done { AccessDone G.PageStore (ReadOf len) pid addr (touch row.key) t.now g.old
         answer.new t.now g.new }
     ensures loans { G.loans g.new ≡ G.loans g.old }
 {
@@ -55,7 +55,7 @@ fn mark_written(t: &mut Tables, pid: Pid, addr: u32, row: CommittedRow)
 /// Writes bytes, which the row of their page permits: where they are, so that a page of a watched
 /// region is written from then on, or to a copy, which is the page's own from then on.
 #[inline(always)]
-pub(crate) fn write_row<G: Pages>(
+pub(crate) fn write_row<G: PageStore>(
     t: &mut Tables,
     g: &mut G,
     pid: Pid,
@@ -64,10 +64,10 @@ pub(crate) fn write_row<G: Pages>(
     bytes: &ByteBuf,
     answer: &mut Answer,
 )
-    requires can { CanAccess G.Pages access_kind.Write t.old pid addr row
+    requires can { CanAccess G.PageStore access_kind.Write t.old pid addr row
         (row_need access_kind.Write row (place_at pid (page_of addr))) g.old }
     requires inside { addr % 4096 + length bytes.now ≤ 4096 }
-    ensures done { AccessDone G.Pages (WriteOf bytes.now) pid addr
+    ensures done { AccessDone G.PageStore (WriteOf bytes.now) pid addr
         (row_need access_kind.Write row (place_at pid (page_of addr))) t.old g.old answer.new
         t.new g.new }
     ensures loans { G.loans g.new ≡ G.loans g.old }
@@ -91,7 +91,7 @@ pub(crate) fn write_row<G: Pages>(
 /// Begins the line of an access, and tells the row of its page that permits it. Of one that is
 /// refused the answer is written.
 #[inline(always)]
-fn enter<G: Pages>(
+fn enter<G: PageStore>(
     t: &mut Tables,
     g: &mut G,
     line: u32,
@@ -100,11 +100,11 @@ fn enter<G: Pages>(
     wanted: Access,
     answer: &mut Answer,
 ) -> Option<CommittedRow>
-    requires next { IsNext G.Pages line t.old g.old }
+    requires next { IsNext G.PageStore line t.old g.old }
     ensures refused { IfNone result ((what : Attempt) → access_of what ≡ wanted →
-        AnswersLine G.Pages (access_line pid addr what) line t.old g.old answer.new t.new g.new) }
+        AnswersLine G.PageStore (access_line pid addr what) line t.old g.old answer.new t.new g.new) }
     ensures entered { IfSome result
-        (λ row. EntersLine G.Pages wanted line pid addr row t.old g.old t.new g.new) }
+        (λ row. EntersLine G.PageStore wanted line pid addr row t.old g.old t.new g.new) }
     ensures loans { G.loans g.new ≡ G.loans g.old }
 {
     t.sound();
@@ -123,7 +123,7 @@ fn enter<G: Pages>(
 
 /// Decides a `read` line.
 #[inline(always)]
-pub(crate) fn read_line<G: Pages>(
+pub(crate) fn read_line<G: PageStore>(
     t: &mut Tables,
     g: &mut G,
     line: u32,
@@ -132,11 +132,11 @@ pub(crate) fn read_line<G: Pages>(
     len: u32,
     answer: &mut Answer,
 )
-    requires next { IsNext G.Pages line t.old g.old }
+    requires next { IsNext G.PageStore line t.old g.old }
     requires some { 1 ≤ len }
     requires few { len ≤ 64 }
     requires inside { addr % 4096 + len ≤ 4096 }
-    ensures done { AnswersLine G.Pages (event.Read pid addr len) line t.old g.old answer.new
+    ensures done { AnswersLine G.PageStore (event.Read pid addr len) line t.old g.old answer.new
         t.new g.new }
     ensures loans { G.loans g.new ≡ G.loans g.old }
 {
@@ -148,7 +148,7 @@ pub(crate) fn read_line<G: Pages>(
 
 /// Decides a `write` line.
 #[inline(always)]
-pub(crate) fn write_line<G: Pages>(
+pub(crate) fn write_line<G: PageStore>(
     t: &mut Tables,
     g: &mut G,
     line: u32,
@@ -157,9 +157,9 @@ pub(crate) fn write_line<G: Pages>(
     bytes: &ByteBuf,
     answer: &mut Answer,
 )
-    requires next { IsNext G.Pages line t.old g.old }
+    requires next { IsNext G.PageStore line t.old g.old }
     requires inside { addr % 4096 + length bytes.now ≤ 4096 }
-    ensures done { AnswersLine G.Pages (event.Write pid addr bytes.now) line t.old g.old
+    ensures done { AnswersLine G.PageStore (event.Write pid addr bytes.now) line t.old g.old
         answer.new t.new g.new }
     ensures loans { G.loans g.new ≡ G.loans g.old }
 {
@@ -170,7 +170,7 @@ pub(crate) fn write_line<G: Pages>(
 }
 
 /// Decides an `exec` line. No byte is read, but a page that cannot be had raises as for a read.
-pub(crate) fn exec_line<G: Pages>(
+pub(crate) fn exec_line<G: PageStore>(
     t: &mut Tables,
     g: &mut G,
     line: u32,
@@ -178,8 +178,8 @@ pub(crate) fn exec_line<G: Pages>(
     addr: u32,
     answer: &mut Answer,
 )
-    requires next { IsNext G.Pages line t.old g.old }
-    ensures done { AnswersLine G.Pages (event.Exec pid addr) line t.old g.old answer.new t.new
+    requires next { IsNext G.PageStore line t.old g.old }
+    ensures done { AnswersLine G.PageStore (event.Exec pid addr) line t.old g.old answer.new t.new
         g.new }
     ensures loans { G.loans g.new ≡ G.loans g.old }
 {

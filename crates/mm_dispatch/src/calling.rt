@@ -6,22 +6,22 @@ use mm_calls::{
     close, create, create_file, map, open_section, probe, protect, query, reset_watch, stack,
     valloc, watch,
 };
-use mm_store::Pages;
 use mm_object_tables::Tables;
+use mm_store::PageStore;
 use mm_types::{Answer, Event, NoMemory};
 use std::alloc::Global;
 
 /// Decides a line that is one call.
-pub(crate) fn decide_call<G: Pages>(
+pub(crate) fn decide_call<G: PageStore>(
     alloc: Global,
     t: &mut Tables,
     g: &mut G,
     line: u32,
     event: &Event,
 ) -> Result<Answer, NoMemory>
-    requires can { CanDecide G.Pages event.now line t.old g.old }
+    requires can { CanDecide G.PageStore event.now line t.old g.old }
     requires call { is_call_line event.now ≡ true }
-    ensures { TakesLine G.Pages event.now line t.old g.old (λ a. a) result t.new g.new }
+    ensures { TakesLine G.PageStore event.now line t.old g.old (λ a. a) result t.new g.new }
 {
     begin_call(t, g, line);
     match event {

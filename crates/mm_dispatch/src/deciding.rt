@@ -9,13 +9,13 @@ use crate::forgetting::forget_waits;
 use crate::paging_lines::paging_line;
 use crate::thread_lines::{begin_line, resume_line};
 use mm_calls::{end_process, flush_view, grow_paging, new_file, new_process, unmap, vfree};
-use mm_store::Pages;
 use mm_object_tables::Tables;
+use mm_store::PageStore;
 use mm_types::{Answer, Event, LineKind, NoMemory};
 use std::alloc::Global;
 
 /// Decides a `process` line.
-fn process_line<G: Pages>(
+fn process_line<G: PageStore>(
     alloc: Global,
     t: &mut Tables,
     g: &mut G,
@@ -23,11 +23,11 @@ fn process_line<G: Pages>(
     min: u32,
     max: u32,
 ) -> Result<Answer, NoMemory>
-    requires next { IsNext G.Pages line t.old g.old }
+    requires next { IsNext G.PageStore line t.old g.old }
     requires ordered { min ≤ max }
     requires some { 1 ≤ max }
     requires most { max ≤ 65536 }
-    ensures { MakesLine G.Pages (event.Process min max) line t.old g.old result t.new g.new }
+    ensures { MakesLine G.PageStore (event.Process min max) line t.old g.old result t.new g.new }
 {
     t.sound();
     let pid = match t.next_pid() {
@@ -43,16 +43,16 @@ fn process_line<G: Pages>(
 
 /// Decides a line that a world decides, and that makes no access itself.
 #[tactic(auto, using(crate::proofs::Readiness::fits_page))]
-fn decide_other<G: Pages>(
+fn decide_other<G: PageStore>(
     alloc: Global,
     t: &mut Tables,
     g: &mut G,
     line: u32,
     event: &Event,
 ) -> Result<Answer, NoMemory>
-    requires can { CanDecide G.Pages event.now line t.old g.old }
+    requires can { CanDecide G.PageStore event.now line t.old g.old }
     requires other { is_access_line event.now ≡ false }
-    ensures { TakesLine G.Pages event.now line t.old g.old (λ a. a) result t.new g.new }
+    ensures { TakesLine G.PageStore event.now line t.old g.old (λ a. a) result t.new g.new }
 {
     match event {
         Event::Process { min, max } => process_line(alloc, t, g, line, *min, *max),
@@ -100,7 +100,7 @@ fn decide_other<G: Pages>(
 /// Decides a line that makes no access itself, and writes its answer where it is wanted. It is not
 /// inlined, so that an access does not pay for the room that a call's answer takes.
 #[inline(never)]
-fn answer_other<G: Pages>(
+fn answer_other<G: PageStore>(
     alloc: Global,
     t: &mut Tables,
     g: &mut G,
@@ -108,9 +108,9 @@ fn answer_other<G: Pages>(
     event: &Event,
     answer: &mut Answer,
 ) -> Result<(), NoMemory>
-    requires can { CanDecide G.Pages event.now line t.old g.old }
+    requires can { CanDecide G.PageStore event.now line t.old g.old }
     requires other { is_access_line event.now ≡ false }
-    ensures { TakesLine G.Pages event.now line t.old g.old (λ _. answer.new) result t.new g.new }
+    ensures { TakesLine G.PageStore event.now line t.old g.old (λ _. answer.new) result t.new g.new }
 {
     match decide_other(alloc, t, g, line, event) {
         Ok(given) => {
@@ -123,7 +123,7 @@ fn answer_other<G: Pages>(
 
 /// Decides a line that a world decides, and writes its answer where it is wanted. Accesses come
 /// first, since they are the commonest.
-pub(crate) fn decide<G: Pages>(
+pub(crate) fn decide<G: PageStore>(
     alloc: Global,
     t: &mut Tables,
     g: &mut G,
@@ -131,8 +131,8 @@ pub(crate) fn decide<G: Pages>(
     event: &Event,
     answer: &mut Answer,
 ) -> Result<(), NoMemory>
-    requires can { CanDecide G.Pages event.now line t.old g.old }
-    ensures { TakesLine G.Pages event.now line t.old g.old (λ _. answer.new) result t.new g.new }
+    requires can { CanDecide G.PageStore event.now line t.old g.old }
+    ensures { TakesLine G.PageStore event.now line t.old g.old (λ _. answer.new) result t.new g.new }
 {
     match event {
         Event::Read { pid, addr, len } => {

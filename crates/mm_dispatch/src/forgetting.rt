@@ -2,8 +2,8 @@ ghost use Rattle.std.specs.Prelude.{◌≡◌, false};
 ghost use Rattle.mm_world.specs.{kept_by};
 ghost use Rattle.mm_dispatch.specs.{Forgot, is_of_process, waits_but, waited, IdlesIn, IdlesBut};
 
-use mm_store::Pages;
 use mm_object_tables::Tables;
+use mm_store::PageStore;
 use mm_types::{Pid, THREADS, Tid};
 
 /// Whether a thread keeps an access of the process.
@@ -17,7 +17,7 @@ fn keeps_of(t: &Tables, tid: Tid, pid: Pid) -> bool
 }
 
 /// A thread waits for nothing any more, if it keeps an access of the process.
-fn forget_wait<G: Pages>(t: &Tables, g: &mut G, tid: Tid, pid: Pid)
+fn forget_wait<G: PageStore>(t: &Tables, g: &mut G, tid: Tid, pid: Pid)
     ensures waits { (G.store g.new).report.wait ≡
         waits_but t.now pid.0 tid.0 (G.store g.old).report.wait }
     ensures rest { G.store g.new ≡ waited (G.store g.old) (G.store g.new) }
@@ -32,7 +32,7 @@ fn forget_wait<G: Pages>(t: &Tables, g: &mut G, tid: Tid, pid: Pid)
 }
 
 /// No thread that keeps an access of the process waits any more.
-pub(crate) fn forget_waits<G: Pages>(t: &Tables, g: &mut G, pid: Pid)
+pub(crate) fn forget_waits<G: PageStore>(t: &Tables, g: &mut G, pid: Pid)
     ensures forgot { Forgot t.now pid.0 256 (G.store g.old) (G.store g.new) }
     ensures contents { G.contents g.new ≡ G.contents g.old }
     ensures passes { IdlesIn G.unpaged t.now pid.0 256 (G.behind g.old) (G.behind g.new) }

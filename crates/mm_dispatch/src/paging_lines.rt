@@ -2,18 +2,23 @@ ghost use Rattle.std.specs.Prelude.{◌≡◌, true, Ok};
 ghost use Rattle.mm_dispatch.specs.{is_paging_line, CanDecide, TakesLine};
 
 use crate::beginning::{begin, begin_call, begin_on};
-use mm_store::{Done, Pages};
 use mm_object_tables::Tables;
+use mm_store::{Done, PageStore};
 use mm_types::{Answer, Code, Event, LineKind};
 
 /// How many `fail` lines a run takes.
 const MOST_FAILS: u32 = 64;
 
 /// Decides a line that asks for a step of paging, or names device calls to come that fail.
-pub(crate) fn paging_line<G: Pages>(t: &mut Tables, g: &mut G, line: u32, event: &Event) -> Answer
-    requires can { CanDecide G.Pages event.now line t.old g.old }
+pub(crate) fn paging_line<G: PageStore>(
+    t: &mut Tables,
+    g: &mut G,
+    line: u32,
+    event: &Event,
+) -> Answer
+    requires can { CanDecide G.PageStore event.now line t.old g.old }
     requires paging { is_paging_line event.now ≡ true }
-    ensures { TakesLine G.Pages event.now line t.old g.old (λ a. a) (Ok result) t.new g.new }
+    ensures { TakesLine G.PageStore event.now line t.old g.old (λ a. a) (Ok result) t.new g.new }
 {
     match *event {
         // Pages of the process's working set, the oldest first, are taken from it.

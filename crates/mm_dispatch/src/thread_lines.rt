@@ -7,13 +7,13 @@ ghost use Rattle.mm_dispatch.specs.{EndsWaits, KeepsOver, AnswersLine, IsNext, E
 
 use crate::beginning::{begin, begin_on};
 use crate::threads::{Threaded, access_on};
-use mm_store::Pages;
 use mm_object_tables::Tables;
+use mm_store::PageStore;
 use mm_types::{AccessSpec, Answer, Code, LineKind, Pid, Raise, Tid, Wait};
 
 /// Decides a `begin` line (own): an access of a thread that waits for no device. The thread keeps
 /// an access that has to wait.
-pub(crate) fn begin_line<G: Pages>(
+pub(crate) fn begin_line<G: PageStore>(
     t: &mut Tables,
     g: &mut G,
     line: u32,
@@ -21,9 +21,9 @@ pub(crate) fn begin_line<G: Pages>(
     pid: Pid,
     what: &AccessSpec,
 ) -> Answer
-    requires next { IsNext G.Pages line t.old g.old }
+    requires next { IsNext G.PageStore line t.old g.old }
     requires fits { FitsPage what.now }
-    ensures done { AnswersLine G.Pages (event.Begin tid pid what.now) line t.old g.old result
+    ensures done { AnswersLine G.PageStore (event.Begin tid pid what.now) line t.old g.old result
         t.new g.new }
     ensures loans { G.loans g.new ≡ G.loans g.old }
 {
@@ -49,7 +49,7 @@ pub(crate) fn begin_line<G: Pages>(
 }
 
 /// Whether the read that a thread waited for has failed.
-fn has_failed<G: Pages>(g: &G, tid: Tid) -> bool
+fn has_failed<G: PageStore>(g: &G, tid: Tid) -> bool
     ensures { result ≡ wait_failed ((G.store g.now).report.wait tid.0) }
 {
     match g.outcome(tid) {
@@ -59,9 +59,9 @@ fn has_failed<G: Pages>(g: &G, tid: Tid) -> bool
 }
 
 /// A thread's access has ended: it keeps none, and waits for nothing.
-fn end_access<G: Pages>(t: &mut Tables, g: &mut G, tid: Tid)
-    requires keeps { KeepsOver G.Pages t.old g.old }
-    ensures { EndsAccess G.Pages tid.0 t.old g.old t.new g.new }
+fn end_access<G: PageStore>(t: &mut Tables, g: &mut G, tid: Tid)
+    requires keeps { KeepsOver G.PageStore t.old g.old }
+    ensures { EndsAccess G.PageStore tid.0 t.old g.old t.new g.new }
 {
     g.forget(tid);
     t.end_kept(tid);
@@ -69,10 +69,10 @@ fn end_access<G: Pages>(t: &mut Tables, g: &mut G, tid: Tid)
 
 /// Decides a `resume` line (own): the access that a thread keeps is decided anew, in the world that
 /// there is now. Any answer but `pending` ends it.
-pub(crate) fn resume_line<G: Pages>(t: &mut Tables, g: &mut G, line: u32, tid: Tid) -> Answer
-    requires next { IsNext G.Pages line t.old g.old }
+pub(crate) fn resume_line<G: PageStore>(t: &mut Tables, g: &mut G, line: u32, tid: Tid) -> Answer
+    requires next { IsNext G.PageStore line t.old g.old }
     requires idle { G.unpaged ≡ true → (n : ℕ) → (G.store g.old).report.wait n ≡ wait.None }
-    ensures done { AnswersLine G.Pages (event.Resume tid) line t.old g.old result t.new g.new }
+    ensures done { AnswersLine G.PageStore (event.Resume tid) line t.old g.old result t.new g.new }
     ensures waits { EndsWaits t.old (event.Resume tid) result (G.store g.new).report }
     ensures loans { G.loans g.new ≡ G.loans g.old }
 {

@@ -10,8 +10,8 @@ ghost use Rattle.mm_dispatch.specs.AccessPromises.{CanTurn, ReadyFor, TurnsAcces
 use crate::access_lines::{read_at, write_row};
 use crate::fetching::place_of;
 use crate::refusals::admit;
-use mm_store::{Need, Pages, Start};
 use mm_object_tables::{CommittedRow, Tables};
+use mm_store::{Need, PageStore, Start};
 use mm_types::{Access, AccessSpec, Answer, Pid, Tid, Why};
 
 /// How an access of a thread went.
@@ -41,7 +41,7 @@ fn needed(row: CommittedRow, wanted: Access) -> Need
 
 /// The row at which an access of a thread is made now, or how the access went that is not: it is
 /// refused, its wait has failed, and the store is not asked, or it has to wait.
-fn ready_row<G: Pages>(
+fn ready_row<G: PageStore>(
     t: &mut Tables,
     g: &mut G,
     tid: Tid,
@@ -51,11 +51,11 @@ fn ready_row<G: Pages>(
     failed: bool,
 ) -> Result<CommittedRow, Threaded>
     requires lives { is_some (process_of t.old pid.0) ≡ true }
-    requires can { CanTurn G.Pages t.old pid g.old }
+    requires can { CanTurn G.PageStore t.old pid g.old }
     ensures ready { IfOk result
-        (λ row. ReadyFor G.Pages wanted tid.0 pid addr row failed t.old g.old t.new g.new) }
+        (λ row. ReadyFor G.PageStore wanted tid.0 pid addr row failed t.old g.old t.new g.new) }
     ensures turned { IfErr result (λ how. (what : Attempt) → access_of what ≡ wanted →
-        TurnsAccess G.Pages what tid.0 pid addr failed t.old g.old how t.new g.new) }
+        TurnsAccess G.PageStore what tid.0 pid addr failed t.old g.old how t.new g.new) }
 {
     t.sound();
     let row = match admit(t, pid, addr, wanted) {
@@ -73,7 +73,7 @@ fn ready_row<G: Pages>(
 }
 
 /// A thread reads or writes.
-pub(crate) fn access_on<G: Pages>(
+pub(crate) fn access_on<G: PageStore>(
     t: &mut Tables,
     g: &mut G,
     tid: Tid,
@@ -82,9 +82,9 @@ pub(crate) fn access_on<G: Pages>(
     failed: bool,
 ) -> Threaded
     requires lives { is_some (process_of t.old pid.0) ≡ true }
-    requires can { CanTurn G.Pages t.old pid g.old }
+    requires can { CanTurn G.PageStore t.old pid g.old }
     requires fits { FitsPage what.now }
-    ensures { TurnsAccess G.Pages (attempt_in what.now) tid.0 pid (address_in what.now) failed
+    ensures { TurnsAccess G.PageStore (attempt_in what.now) tid.0 pid (address_in what.now) failed
         t.old g.old result t.new g.new }
 {
     match what {

@@ -6,8 +6,8 @@ ghost use Rattle.mm_object_tables.specs.{FitsTables, MadeAtMost};
 ghost use Rattle.mm_dispatch.specs.Built.{is_machine, takes_memory};
 
 use crate::deciding::decide;
-use mm_store::Pages;
 use mm_object_tables::Tables;
+use mm_store::PageStore;
 use mm_types::{Answer, Event, Machine, NoMemory};
 use std::alloc::Global;
 
@@ -15,7 +15,7 @@ use std::alloc::Global;
 ///
 /// After `NoMemory` it is spent: nothing is to be asked of it but its charge and its store. It is
 /// not let go, but given up for its store (`finish`).
-pub struct World<G: Pages> {
+pub struct World<G: PageStore> {
     tables: Tables,
     /// The store of the pages.
     pub pages: G,
@@ -24,7 +24,7 @@ pub struct World<G: Pages> {
     ghost few: { spent ≡ false → MadeAtMost (G.store pages).line tables },
 }
 
-impl<G: Pages> World<G> {
+impl<G: PageStore> World<G> {
     ghost use Rattle.mm_dispatch.specs.Promise.{Decides, Breaks, scene};
     ghost use Rattle.mm_line_moves.specs.{Agrees};
     ghost use Rattle.mm_dispatch.specs.Shown.{world, report, world_behind, line_number, loans};

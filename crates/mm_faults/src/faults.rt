@@ -9,10 +9,10 @@ ghost use Rattle.mm_sentences.specs.{why_text};
 
 use crate::counters::Counters;
 use crate::rows::put_tally;
+use mm_log_walk::Teller;
 use mm_move_classes::{Class, Marks, class_of};
 use mm_replay::Life;
 use mm_sentences::put_why;
-use mm_log_walk::Teller;
 use mm_types::{Move, NoMemory};
 use std::alloc::Global;
 

@@ -9,9 +9,9 @@ ghost use Rattle.mm_sentences.specs.{why_text};
 use crate::heads::{put_end, put_head, put_head_alone};
 use crate::rows::{Noted, note, put_waiting};
 use crate::subjects::Subject;
+use mm_log_walk::{Classifier, Teller};
 use mm_replay::Life;
 use mm_sentences::put_why;
-use mm_log_walk::{Classifier, Teller};
 use mm_types::{Key, Move, NoMemory};
 use std::alloc::Global;
 

@@ -6,10 +6,10 @@ ghost use Rattle.mm_histories.specs.Histories.{state_before, change_text, row_te
 ghost use Rattle.mm_histories.specs.Rest.{noted, waiting_row};
 
 use crate::subjects::{Subject, is_about};
+use mm_log_walk::Classed;
 use mm_move_classes::Class;
 use mm_replay::Life;
 use mm_sentences::{Facts, FrameState, facts_of, put_sentence, put_state, put_words, state_of};
-use mm_log_walk::Classed;
 use mm_text::{LineBuf, put_decimal, put_left};
 use mm_types::{Frame, Move, NoMemory};
 use std::alloc::Global;

@@ -5,11 +5,10 @@ use Rattle.mm_text.specs.{name_of, words_of}
 use Rattle.mm_text.specs.Word.{Word}
 use Rattle.mm_script.specs.{LineFault, without_return, parse}
 use Rattle.mm_script.proofs.{parse_ok, line_fits}
-use Rattle.mm_names.specs.declared.names.Given.{Given}
 use Rattle.mm_names.specs.declared.meanings.Meaning.{Meaning}
 use Rattle.mm_names.specs.declared.meanings.Meaning.TheVariants as meaning
-use Rattle.mm_names.specs.{tidy_of, value_of, windows_value, lowered, keyword_for, said_by, said_in, given_as, given_to, let_of, sentence, phrase}
-use Rattle.mm_names.specs.{most_line, meant_by, or_else, meant, plain_of, FormedIn, may_stand, placed_line}
+use Rattle.mm_names.specs.{NamesOf, tidy_of, value_of, windows_value, lowered, keyword_for, said_by, said_in, given_as, given_to, let_of, sentence}
+use Rattle.mm_names.specs.{phrase, most_line, meant_by, or_else, meant, plain_of, FormedIn, may_stand, placed_line}
 
 pub formed_choice : (b : Bool) (m n : Meaning) → FormedIn m → FormedIn n → FormedIn (if b then m else n)
 formed_choice true m n g h = g
@@ -28,13 +27,13 @@ pub formed_as : (name : Text) (n : Option ℕ) → FormedIn (given_as name n)
 formed_as name None = tt
 formed_as name (Some n) = tt
 
-pub formed_given : (names : List Given) (name : Option Text) (word : Text) → FormedIn (given_to names name word)
+pub formed_given : (names : NamesOf) (name : Option Text) (word : Text) → FormedIn (given_to names name word)
 formed_given names None word = tt
 formed_given names (Some name) word =
     formed_choice (is_some (windows_value name)) meaning.Wrong (given_as name (value_of names word)) tt
     (formed_as name (value_of names word))
 
-pub formed_let : (names : List Given) (ws : List Word) → FormedIn (let_of names ws)
+pub formed_let : (names : NamesOf) (ws : List Word) → FormedIn (let_of names ws)
 formed_let names [] = tt
 formed_let names (a ∷ []) = tt
 formed_let names (a ∷ b ∷ []) = tt
@@ -43,18 +42,18 @@ formed_let names (a ∷ b ∷ c ∷ []) =
     (formed_given names (name_of a.text) c.text) tt
 formed_let names (a ∷ b ∷ c ∷ d ∷ ws) = tt
 
-pub formed_sentence : (names : List Given) (ws : List Word) → FormedIn (sentence names ws)
+pub formed_sentence : (names : NamesOf) (ws : List Word) → FormedIn (sentence names ws)
 formed_sentence names [] = tt
 formed_sentence names (w ∷ ws) =
     formed_choice (bytes_eq (lowered w.text) (codes "let")) (let_of names ws)
     (said_in (plain_of names (keyword_for (lowered w.text)) ws)) (formed_let names ws)
     (formed_in (plain_of names (keyword_for (lowered w.text)) ws))
 
-pub formed_phrase : (names : List Given) (text : Text) → FormedIn (phrase names text)
+pub formed_phrase : (names : NamesOf) (text : Text) → FormedIn (phrase names text)
 formed_phrase names [] = tt
 formed_phrase names (c ∷ cs) = formed_sentence names (words_of (c ∷ cs))
 
-pub formed_by : (names : List Given) (text : Option Text) → FormedIn (meant_by names text)
+pub formed_by : (names : NamesOf) (text : Option Text) → FormedIn (meant_by names text)
 formed_by names None = tt
 formed_by names (Some t) =
     formed_choice (nat_le (length t) most_line) (phrase names t) meaning.Wrong (formed_phrase names t) tt
@@ -63,7 +62,7 @@ pub formed_else : (text : Text) (r : Result Event LineFault) (m : Meaning) → r
 formed_else text (Ok e) m h f = line_fits text e (parse_ok text e (sym h))
 formed_else text (Err g) m h f = f
 
-pub formed_meant : (names : List Given) (line : Text) → FormedIn (meant names line)
+pub formed_meant : (names : NamesOf) (line : Text) → FormedIn (meant names line)
 unfolding meant
 formed_meant names line =
     let other : Meaning = meant_by names (tidy_of (without_return line)) in
@@ -76,7 +75,7 @@ formed_placed begun (meaning.Gives g) h = tt
 formed_placed begun (meaning.Says e) h = formed_choice (may_stand begun e) (meaning.Says e) meaning.Wrong h tt
 formed_placed begun meaning.Wrong h = tt
 
-pub formed_result : (names : List Given) (line : Text) (r : Result Meaning NoMemory)
+pub formed_result : (names : NamesOf) (line : Text) (r : Result Meaning NoMemory)
     → IfOk r (λ m. m ≡ meant names line) → IfOk r (λ m. FormedIn m)
 formed_result names line (Ok m) h = subst (λ (n : Meaning). FormedIn n) (sym h) (formed_meant names line)
 formed_result names line (Err e) h = tt

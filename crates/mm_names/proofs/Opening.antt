@@ -3,11 +3,10 @@ use Rattle.std.proofs.Common.{◌≡◌, ℕ, ◌≤◌, Bool, true, false, not,
 use Rattle.std.specs.List.{AllByRecursion}
 use Rattle.mm_types.specs.{Text, Event}
 use Rattle.mm_script.specs.{LineFault, without_return, parse}
-use Rattle.mm_names.specs.declared.names.Given.{Given}
 use Rattle.mm_names.specs.declared.meanings.Meaning.{Meaning}
 use Rattle.mm_names.specs.declared.meanings.Meaning.TheVariants as meaning
-use Rattle.mm_names.specs.{tidy_of, most_line, meant_by, or_else, meant, is_machine, may_stand, placed_line, goes_on, events_of, lines_of, script_of}
-use Rattle.mm_names.specs.{IsScript, ArePlain}
+use Rattle.mm_names.specs.{NamesOf, no_names, with_name, tidy_of, most_line, meant_by, or_else, meant, is_machine, may_stand, placed_line, goes_on}
+use Rattle.mm_names.specs.{events_of, lines_of, script_of, IsScript, ArePlain}
 
 -- what may follow: no machine once a script has begun
 abbrev pub Starts : Bool → List Event → Type 0
@@ -29,19 +28,19 @@ starts_more begun e (Some fs) es h later is =
     subst (λ (gs : List Event). Starts begun gs) (ap (λ o. unwrap_or o (e ∷ fs)) is)
     (starts_with begun e fs h (later fs refl))
 
-pub starts_said : (b begun : Bool) (e : Event) (names : List Given) (ls : List Text) (es : List Event) → may_stand begun e ≡ b
-    → ((ns : List Given) (c : Bool) (fs : List Event) → events_of ns c ls ≡ Some fs → Starts c fs)
+pub starts_said : (b begun : Bool) (e : Event) (names : NamesOf) (ls : List Text) (es : List Event) → may_stand begun e ≡ b
+    → ((ns : NamesOf) (c : Bool) (fs : List Event) → events_of ns c ls ≡ Some fs → Starts c fs)
     → goes_on (if b then meaning.Says e else meaning.Wrong) names begun (λ ns c. events_of ns c ls) ≡ Some es
     → Starts begun es
 starts_said true begun e names ls es h later is =
     starts_more begun e (events_of names true ls) es h (λ fs. later names true fs) is
 starts_said false begun e names ls es h later is = let bad : None ≡ Some es = is in cc
 
-pub starts_line : (m : Meaning) (begun : Bool) (names : List Given) (ls : List Text) (es : List Event)
-    → ((ns : List Given) (c : Bool) (fs : List Event) → events_of ns c ls ≡ Some fs → Starts c fs)
+pub starts_line : (m : Meaning) (begun : Bool) (names : NamesOf) (ls : List Text) (es : List Event)
+    → ((ns : NamesOf) (c : Bool) (fs : List Event) → events_of ns c ls ≡ Some fs → Starts c fs)
     → goes_on (placed_line begun m) names begun (λ ns c. events_of ns c ls) ≡ Some es → Starts begun es
 starts_line meaning.Nothing begun names ls es later is = later names begun es is
-starts_line (meaning.Gives g) begun names ls es later is = later (names ++ g ∷ []) begun es is
+starts_line (meaning.Gives g) begun names ls es later is = later (with_name names g) begun es is
 starts_line (meaning.Says e) begun names ls es later is =
     starts_said (may_stand begun e) begun e names ls es refl later is
 starts_line meaning.Wrong begun names ls es later is = let bad : None ≡ Some es = is in cc
@@ -50,14 +49,14 @@ pub starts_none : (begun : Bool) (es : List Event) → (if begun then Some [] el
 starts_none true es is = subst (λ (gs : List Event). Starts true gs) (ap (λ o. unwrap_or o []) is) tt
 starts_none false es is = let bad : None ≡ Some es = is in cc
 
-pub starts : (ls : List Text) (names : List Given) (begun : Bool) (es : List Event) → events_of names begun ls ≡ Some es
+pub starts : (ls : List Text) (names : NamesOf) (begun : Bool) (es : List Event) → events_of names begun ls ≡ Some es
     → Starts begun es
 starts [] names begun es is = starts_none begun es is
 starts (l ∷ ls) names begun es is = starts_line (meant names l) begun names ls es (starts ls) is
 
 pub opens : (text : Text) (es : List Event) → script_of text ≡ Some es → IsScript es
 unfolding script_of
-opens text es is = starts (lines_of text) [] false es is
+opens text es is = starts (lines_of text) no_names false es is
 
 pub stands : (begun : Bool) (e : Event) (es : List Event) → Starts begun (e ∷ es)
     → (may_stand begun e ≡ true) × Starts true es
@@ -67,7 +66,7 @@ stands false e es h = (h.0, h.1)
 pub short_line : (n : ℕ) → n ≤ 256 → nat_le n most_line ≡ true
 short_line n h = grind (arith, h)
 
-pub plain_meant : (names : List Given) (l : Text) (e : Event) → parse l ≡ Ok e → length l ≤ 256
+pub plain_meant : (names : NamesOf) (l : Text) (e : Event) → parse l ≡ Ok e → length l ≤ 256
     → meant names l ≡ meaning.Says e
 unfolding meant
 plain_meant names l e h short =
@@ -75,7 +74,7 @@ plain_meant names l e h short =
     ap (λ b. if b then or_else (parse l) other else meaning.Wrong) (short_line (length l) short)
     ∙ ap (λ r. or_else r other) h
 
-pub plain_goes : (begun : Bool) (m : Meaning) (e : Event) (names : List Given) (ls : List Text) (es : List Event)
+pub plain_goes : (begun : Bool) (m : Meaning) (e : Event) (names : NamesOf) (ls : List Text) (es : List Event)
     → m ≡ meaning.Says e → may_stand begun e ≡ true → events_of names true ls ≡ Some es
     → goes_on (placed_line begun m) names begun (λ ns c. events_of ns c ls) ≡ Some (e ∷ es)
 plain_goes begun m e names ls es is stand later =
@@ -83,7 +82,7 @@ plain_goes begun m e names ls es is stand later =
     ∙ ap (λ b. goes_on (if b then meaning.Says e else meaning.Wrong) names begun (λ ns c. events_of ns c ls)) stand
     ∙ ap (λ o. option_map (λ fs. e ∷ fs) o) later
 
-pub plain_from : (ls : List Text) (es : List Event) (names : List Given) (begun : Bool) → ArePlain ls es → Starts begun es
+pub plain_from : (ls : List Text) (es : List Event) (names : NamesOf) (begun : Bool) → ArePlain ls es → Starts begun es
     → events_of names begun ls ≡ Some es
 plain_from [] [] names true plain start = refl
 plain_from [] [] names false plain start = absurd start
@@ -96,6 +95,6 @@ plain_from (l ∷ ls) (e ∷ es) names begun plain start =
 
 pub plain_script : (text : Text) (es : List Event) → ArePlain (lines_of text) es → IsScript es → script_of text ≡ Some es
 unfolding script_of
-plain_script text es plain start = plain_from (lines_of text) es [] false plain start
+plain_script text es plain start = plain_from (lines_of text) es no_names false plain start
 
 pub ruleset opening = (opens, plain_script)

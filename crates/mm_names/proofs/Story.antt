@@ -4,11 +4,10 @@ use Rattle.std.specs.List.{AllByRecursion}
 use Rattle.mm_types.specs.{Text, NoMemory, Event}
 use Rattle.mm_types.proofs.{append_nil}
 use Rattle.mm_script.specs.{printed, IsWellFormed}
-use Rattle.mm_names.specs.declared.names.Given.{Given}
 use Rattle.mm_names.specs.declared.meanings.Meaning.{Meaning}
 use Rattle.mm_names.specs.declared.meanings.Meaning.TheVariants as meaning
-use Rattle.mm_names.specs.{meant, FormedIn, placed_line, goes_on, events_of, lines_from, without_mark, script_of, spelled, ScriptOf, unread}
-use Rattle.mm_names.specs.{with_event, with_meaning, with_line, with_lines, is_whole, SpellsScript, Ends}
+use Rattle.mm_names.specs.{NamesOf, with_name, meant, FormedIn, placed_line, goes_on, events_of, lines_from, without_mark, script_of, spelled}
+use Rattle.mm_names.specs.{ScriptOf, unread, with_event, with_meaning, with_line, with_lines, is_whole, SpellsScript, Ends}
 use Rattle.mm_names.proofs.Formed.{formed_meant, formed_placed}
 
 -- a script was spelled behind a text of some lines
@@ -52,7 +51,7 @@ pub ends_line : (m : Meaning) (s : ScriptOf) (ls : List Text) → FormedIn m →
     → ((u : ScriptOf) → u.clean ≡ true → EndsFrom u.text u.lines (events_of u.names u.begun ls) (with_lines u ls))
     → EndsFrom s.text s.lines (goes_on m s.names s.begun (λ ns b. events_of ns b ls)) (with_lines (with_meaning s m) ls)
 ends_line meaning.Nothing s ls f h later = later s h
-ends_line (meaning.Gives g) s ls f h later = later (record s { names = s.names ++ g ∷ [] }) h
+ends_line (meaning.Gives g) s ls f h later = later (record s { names = with_name s.names g }) h
 ends_line (meaning.Says e) s ls f h later =
     ends_more s.text s.lines e (events_of s.names true ls) (with_lines (with_event s e) ls) f (later (with_event s e) h)
 ends_line meaning.Wrong s ls f h later =

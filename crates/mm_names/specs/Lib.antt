@@ -1,3 +1,4 @@
+pub mod Keys
 pub mod Tidy
 pub mod Numbers
 pub mod Words
@@ -5,9 +6,10 @@ pub mod Meaning
 pub mod Scripts
 pub mod Stages
 pub mod Runs
-pub use Tidy.{tidy_of, untouched, with_bytes}
-pub use Numbers.{latest, memory_names, nothing_yet, page_names, section_names, sum_with_all}
-pub use Numbers.{value_of, windows_value}
+pub use Keys.{NamesOf, found_by, given_value, name_key, no_names, same_name, with_name}
+pub use Tidy.{tidy_of, untouched, with_bytes, word_follows}
+pub use Numbers.{is_arithmetic, is_shift, memory_names, nothing_yet, page_names, section_names}
+pub use Numbers.{sum_with_all, value_of, windows_value}
 pub use Words.{keyword_for, lowered, text_among}
 pub use Meaning.{FormedIn, given_as, given_to, let_of, meant_by, most_line, or_else, phrase}
 pub use Meaning.{plain_from, plain_of, plain_word, said_by, said_in, sentence, unquoted, with_word}
@@ -20,3 +22,4 @@ pub use Stages.{with_meaning}
 pub use Runs.{CameTo, IsManyBytes, IsManyLines, IsRefusedFile, IsTorn, IsWritten, WasRead}
 pub use Runs.{most_bytes, most_lines, names_status}
 pub use declared.endings.Ending.{Ending}
+pub use declared.names.NameKey.{NameKey}

@@ -12,6 +12,7 @@ use Rattle.mm_names.specs.declared.words.Kind.TheVariants as kind
 use Rattle.mm_names.specs.declared.meanings.Meaning.{Meaning}
 use Rattle.mm_names.specs.declared.meanings.Meaning.TheVariants as meaning
 use Rattle.mm_names.specs.Tidy.{tidy_of}
+use Rattle.mm_names.specs.Keys.{NamesOf}
 use Rattle.mm_names.specs.Numbers.{value_of, windows_value}
 use Rattle.mm_names.specs.Words.{lowered, keyword_for, verb_of, kind_at, next_number, verb_after}
 
@@ -21,7 +22,7 @@ unquoted [] = []
 unquoted (c ∷ cs) = if c == 0x22 then cs else c ∷ cs
 
 -- the plain word for a written one of this kind
-abbrev pub plain_word : List Given → Kind → Text → Option Text
+abbrev pub plain_word : NamesOf → Kind → Text → Option Text
 plain_word names kind.Number word = option_map hex_short (value_of names word)
 plain_word names kind.Name word = Some word
 plain_word names kind.Keyword word = Some (lowered word)
@@ -32,13 +33,13 @@ abbrev pub with_word : Text → Option Text → Option Text
 with_word line word = option_map (λ w. line ++ 0x20 ∷ w) word
 
 -- the plain line of words, of which the first has this number, behind a line
-abbrev pub plain_from : List Given → Verb → ℕ → Text → List Word → Option Text
+abbrev pub plain_from : NamesOf → Verb → ℕ → Text → List Word → Option Text
 plain_from names v n line [] = Some line
 plain_from names v n line (w ∷ ws) =
     option_and_then (λ l. plain_from names (verb_after v n w.text) (next_number n) l ws)
     (with_word line (plain_word names (kind_at v n) w.text))
 
-abbrev pub plain_of : List Given → Text → List Word → Option Text
+abbrev pub plain_of : NamesOf → Text → List Word → Option Text
 plain_of names keyword words = plain_from names (verb_of keyword) 2 keyword words
 
 -- the event of a line as `mmsim` reads it, which has at most 256 bytes
@@ -55,25 +56,25 @@ abbrev pub given_as : Text → Option ℕ → Meaning
 given_as name None = meaning.Wrong
 given_as name (Some n) = meaning.Gives (record { name = name; value = n })
 
-abbrev pub given_to : List Given → Option Text → Text → Meaning
+abbrev pub given_to : NamesOf → Option Text → Text → Meaning
 given_to names None word = meaning.Wrong
 given_to names (Some name) word =
     if is_some (windows_value name) then meaning.Wrong else given_as name (value_of names word)
 
 -- what stands behind `let`: a name, `=` and a number
-abbrev pub let_of : List Given → List Word → Meaning
+abbrev pub let_of : NamesOf → List Word → Meaning
 let_of names (w ∷ equals ∷ number ∷ []) =
     if bytes_eq equals.text (codes "=") then given_to names (name_of w.text) number.text
     else meaning.Wrong
 let_of names _ = meaning.Wrong
 
-abbrev pub sentence : List Given → List Word → Meaning
+abbrev pub sentence : NamesOf → List Word → Meaning
 sentence names [] = meaning.Wrong
 sentence names (w ∷ ws) =
     if bytes_eq (lowered w.text) (codes "let") then let_of names ws
     else said_in (plain_of names (keyword_for (lowered w.text)) ws)
 
-abbrev pub phrase : List Given → Text → Meaning
+abbrev pub phrase : NamesOf → Text → Meaning
 phrase names [] = meaning.Nothing
 phrase names (c ∷ cs) = sentence names (words_of (c ∷ cs))
 
@@ -81,7 +82,7 @@ phrase names (c ∷ cs) = sentence names (words_of (c ∷ cs))
 abbrev pub most_line : ℕ
 most_line = 65536
 
-abbrev pub meant_by : List Given → Option Text → Meaning
+abbrev pub meant_by : NamesOf → Option Text → Meaning
 meant_by names None = meaning.Wrong
 meant_by names (Some text) =
     if nat_le (length text) most_line then phrase names text else meaning.Wrong
@@ -92,7 +93,7 @@ or_else (Err f) other = other
 
 -- What a line means, without its line feed, where these names were given: a plain line what it
 -- means to `mmsim`, another what its words stand for.
-unfoldable pub meant : List Given → Text → Meaning
+unfoldable pub meant : NamesOf → Text → Meaning
 meant names line =
     if nat_le (length line) most_line
     then or_else (parse line) (meant_by names (tidy_of (without_return line)))

@@ -5,9 +5,9 @@ use Rattle.std.specs.List.{AllByRecursion}
 use Rattle.mm_types.specs.{Text, Event}
 use Rattle.mm_types.specs.declared.events.Event.TheVariants as line
 use Rattle.mm_script.specs.{printed, parse}
-use Rattle.mm_names.specs.declared.names.Given.{Given}
 use Rattle.mm_names.specs.declared.meanings.Meaning.{Meaning}
 use Rattle.mm_names.specs.declared.meanings.Meaning.TheVariants as meaning
+use Rattle.mm_names.specs.Keys.{NamesOf, no_names, with_name}
 use Rattle.mm_names.specs.Meaning.{meant}
 
 -- a UTF-8 mark may stand in front
@@ -43,23 +43,23 @@ abbrev pub placed_line : Bool → Meaning → Meaning
 placed_line begun (meaning.Says e) = if may_stand begun e then meaning.Says e else meaning.Wrong
 placed_line begun m = m
 
-abbrev pub goes_on : Meaning → List Given → Bool
-    → (List Given → Bool → Option (List Event)) → Option (List Event)
+abbrev pub goes_on : Meaning → NamesOf → Bool
+    → (NamesOf → Bool → Option (List Event)) → Option (List Event)
 goes_on meaning.Nothing names begun later = later names begun
-goes_on (meaning.Gives g) names begun later = later (names ++ g ∷ []) begun
+goes_on (meaning.Gives g) names begun later = later (with_name names g) begun
 goes_on (meaning.Says e) names begun later = option_map (λ es. e ∷ es) (later names true)
 goes_on meaning.Wrong names begun later = None
 
 -- The events that lines mean, where these names were given before, and a script has begun or not.
 -- None where a line means nothing that may stand there, or no line means an event.
-abbrev pub events_of : List Given → Bool → List Text → Option (List Event)
+abbrev pub events_of : NamesOf → Bool → List Text → Option (List Event)
 events_of names begun [] = if begun then Some [] else None
 events_of names begun (l ∷ ls) =
     goes_on (placed_line begun (meant names l)) names begun (λ ns b. events_of ns b ls)
 
 -- the script that a written file means
 unfoldable pub script_of : Text → Option (List Event)
-script_of text = events_of [] false (lines_of text)
+script_of text = events_of no_names false (lines_of text)
 
 -- the first event is a machine, and no other
 abbrev pub IsScript : List Event → Type 0

@@ -3,23 +3,23 @@ use Rattle.std.specs.Prelude.{◌≡◌, ℕ, ◌+◌, ◌==◌, Bool, true, fal
 use Rattle.std.specs.List.{AllByRecursion}
 use Rattle.mm_types.specs.{Text, Event}
 use Rattle.mm_script.specs.{printed, IsWellFormed}
-use Rattle.mm_names.specs.declared.names.Given.{Given}
 use Rattle.mm_names.specs.declared.meanings.Meaning.{Meaning}
 use Rattle.mm_names.specs.declared.meanings.Meaning.TheVariants as meaning
+use Rattle.mm_names.specs.Keys.{NamesOf, no_names, with_name}
 use Rattle.mm_names.specs.Meaning.{meant}
 use Rattle.mm_names.specs.Scripts.{placed_line, spelled}
 
 -- what was read so far: the names, whether an event came, whether every line means something, the
 -- script's text and how many lines it has
 pub record ScriptOf : Type 0 where
-  pub names : List Given
+  pub names : NamesOf
   pub begun : Bool
   pub clean : Bool
   pub text : Text
   pub lines : ℕ
 
 abbrev pub unread : ScriptOf
-unread = record { names = []; begun = false; clean = true; text = []; lines = 0 }
+unread = record { names = no_names; begun = false; clean = true; text = []; lines = 0 }
 
 abbrev pub with_event : ScriptOf → Event → ScriptOf
 with_event s e =
@@ -27,7 +27,7 @@ with_event s e =
 
 abbrev pub with_meaning : ScriptOf → Meaning → ScriptOf
 with_meaning s meaning.Nothing = s
-with_meaning s (meaning.Gives g) = record s { names = s.names ++ g ∷ [] }
+with_meaning s (meaning.Gives g) = record s { names = with_name s.names g }
 with_meaning s (meaning.Says e) = with_event s e
 with_meaning s meaning.Wrong = record s { clean = false }
 

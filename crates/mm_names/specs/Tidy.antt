@@ -1,21 +1,63 @@
 -- A written line with one space between each word and the next.
 -- docs/WRITTEN.md
-use Rattle.std.specs.Prelude.{ℕ, ◌==◌, ◌||◌, if◌then◌else◌, List, [], ◌∷◌, ◌++◌, Option, Some, None}
+use Rattle.std.specs.Prelude.{ℕ, ◌==◌, ◌||◌, ◌&&◌, Bool, true, false, not, if◌then◌else◌, List, [], ◌∷◌, ◌++◌, Option, Some, None}
 use Rattle.mm_types.specs.{Text, byte_pairs}
 use Rattle.mm_names.specs.declared.tidy.Sign.{Sign}
 use Rattle.mm_names.specs.declared.tidy.Sign.TheVariants as sign
 use Rattle.mm_names.specs.declared.tidy.Last.{Last}
 use Rattle.mm_names.specs.declared.tidy.Last.TheVariants as last
 
--- what a byte is: spaces, tabs, parentheses and commas part words; `+` and `|` join them
+abbrev pub is_space : ℕ → Bool
+is_space c = c == 0x20 || c == 0x09
+
+-- spaces, tabs, parentheses and commas part words
+abbrev pub is_blank : ℕ → Bool
+is_blank c = is_space c || c == 0x28 || c == 0x29 || c == 0x2C
+
+-- `#` and `;` begin a comment
+abbrev pub is_hash : ℕ → Bool
+is_hash c = c == 0x23 || c == 0x3B
+
+-- `+`, `|`, `*` and `<` join words
+abbrev pub is_operator : ℕ → Bool
+is_operator c = c == 0x2B || c == 0x7C || c == 0x2A || c == 0x3C
+
+-- what a byte is by itself
 abbrev pub sign_of : ℕ → Sign
 sign_of c =
-    if c == 0x20 || c == 0x09 || c == 0x28 || c == 0x29 || c == 0x2C then sign.Blank
-    else if c == 0x23 then sign.Hash
+    if is_blank c then sign.Blank
+    else if is_hash c then sign.Hash
     else if c == 0x22 then sign.Quote
-    else if c == 0x2B || c == 0x7C then sign.Operator
+    else if is_operator c then sign.Operator
     else if c == 0x3D then sign.Equals
     else sign.Letter
+
+-- another slash follows, so a comment begins
+abbrev pub is_slashed : Text → Bool
+is_slashed [] = false
+is_slashed (c ∷ cs) = c == 0x2F
+
+abbrev pub is_letter : Sign → Bool
+is_letter sign.Letter = true
+is_letter _ = false
+
+-- a word follows behind spaces
+abbrev pub word_follows : Text → Bool
+word_follows [] = false
+word_follows (c ∷ cs) = if is_space c then word_follows cs else is_letter (sign_of c)
+
+-- a space follows, and behind it a word
+abbrev pub is_parted : Text → Bool
+is_parted [] = false
+is_parted (c ∷ cs) = is_space c && word_follows cs
+
+-- what a byte is, with these behind it: `//` begins a comment too, and `-` between words parted by
+-- spaces is a difference
+abbrev pub sign_at : ℕ → Text → Sign
+sign_at c cs =
+    if (c == 0x2F) && is_slashed cs then sign.Hash
+    else if (c == 0x2D) && is_parted cs then sign.Minus
+    else sign_of c
 
 -- the space that stands before a word
 abbrev pub gap_after : Last → Text
@@ -28,8 +70,8 @@ gap_before_equals last.Word = 0x20 ∷ []
 gap_before_equals last.Blank = 0x20 ∷ []
 gap_before_equals _ = []
 
--- What a byte of this sign adds after what came last. Bytes in quotes become pairs of hexadecimal
--- digits.
+-- What a byte of this sign adds after what came last: a difference is the sum with what is taken
+-- away. Bytes in quotes become pairs of hexadecimal digits.
 abbrev pub added_outside : Last → Sign → ℕ → Text
 added_outside l sign.Blank c = []
 added_outside l sign.Hash c = []
@@ -37,6 +79,8 @@ added_outside l sign.Quote c = gap_after l ++ c ∷ []
 added_outside l sign.Operator c = c ∷ []
 added_outside l sign.Equals c = gap_before_equals l ++ c ∷ []
 added_outside l sign.Letter c = gap_after l ++ c ∷ []
+added_outside last.Blank sign.Minus c = 0x2B ∷ c ∷ []
+added_outside l sign.Minus c = gap_after l ++ c ∷ []
 
 abbrev pub added : Last → Sign → ℕ → Text
 added last.Comment s c = []
@@ -57,6 +101,8 @@ last_outside l sign.Quote = last.Quote
 last_outside l sign.Operator = last.Operator
 last_outside l sign.Equals = last.Blank
 last_outside l sign.Letter = last.Word
+last_outside last.Blank sign.Minus = last.Operator
+last_outside l sign.Minus = last.Word
 
 -- what came last, after a byte more
 abbrev pub last_after : Last → Sign → Last
@@ -72,13 +118,12 @@ pub record TidyOf : Type 0 where
 abbrev pub untouched : TidyOf
 untouched = record { text = []; last = last.Nothing }
 
-abbrev pub with_byte : TidyOf → ℕ → TidyOf
-with_byte t c =
-    record { text = t.text ++ added t.last (sign_of c) c; last = last_after t.last (sign_of c) }
+abbrev pub with_byte : TidyOf → ℕ → Sign → TidyOf
+with_byte t c s = record { text = t.text ++ added t.last s c; last = last_after t.last s }
 
-abbrev pub with_bytes : TidyOf → List ℕ → TidyOf
+abbrev pub with_bytes : TidyOf → Text → TidyOf
 with_bytes t [] = t
-with_bytes t (c ∷ cs) = with_bytes (with_byte t c) cs
+with_bytes t (c ∷ cs) = with_bytes (with_byte t c (sign_at c cs)) cs
 
 -- a quote has to be closed
 abbrev pub closed : Last → Text → Option Text

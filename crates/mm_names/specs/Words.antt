@@ -21,16 +21,21 @@ text_among (x ∷ xs) word = if bytes_eq word x.0 then Some x.1 else text_among 
 -- Windows' calls, in lower case, and the keywords for them
 abbrev pub memory_calls : List (Text × Text)
 memory_calls =
-    (codes "virtualalloc", codes "alloc") ∷ (codes "virtualfree", codes "free")
-    ∷ (codes "virtualprotect", codes "protect") ∷ (codes "virtualquery", codes "query")
+    (codes "virtualalloc", codes "alloc") ∷ (codes "virtualallocex", codes "alloc")
+    ∷ (codes "virtualfree", codes "free") ∷ (codes "virtualfreeex", codes "free")
+    ∷ (codes "virtualprotect", codes "protect") ∷ (codes "virtualprotectex", codes "protect")
+    ∷ (codes "virtualquery", codes "query") ∷ (codes "virtualqueryex", codes "query")
     ∷ (codes "getwritewatch", codes "watch") ∷ (codes "resetwritewatch", codes "resetwatch")
     ∷ (codes "exitprocess", codes "exit") ∷ []
 
 abbrev pub section_calls : List (Text × Text)
 section_calls =
-    (codes "createfilemapping", codes "create") ∷ (codes "openfilemapping", codes "open")
+    (codes "createfilemapping", codes "create") ∷ (codes "createfilemappinga", codes "create")
+    ∷ (codes "createfilemappingw", codes "create") ∷ (codes "openfilemapping", codes "open")
+    ∷ (codes "openfilemappinga", codes "open") ∷ (codes "openfilemappingw", codes "open")
     ∷ (codes "closehandle", codes "close") ∷ (codes "mapviewoffile", codes "map")
-    ∷ (codes "unmapviewoffile", codes "unmap") ∷ (codes "flushviewoffile", codes "flush") ∷ []
+    ∷ (codes "mapviewoffileex", codes "map") ∷ (codes "unmapviewoffile", codes "unmap")
+    ∷ (codes "flushviewoffile", codes "flush") ∷ []
 
 -- the keyword for a word in lower case
 abbrev pub keyword_for : Text → Text

@@ -15,7 +15,7 @@ mod words;
 
 pub use endings::Ending;
 pub use meanings::{Meaning, meant};
-pub use names::{Given, windows_value};
+pub use names::{Given, Names, windows_value};
 pub use numbers::value_of;
 pub use plains::plain_of;
 pub use scripts::{Script, may_stand, plain_files_stay, scripts_begin, translated, without_mark};

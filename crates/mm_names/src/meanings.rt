@@ -4,7 +4,7 @@ ghost use Rattle.mm_script.specs.{without_return};
 ghost use Rattle.mm_names.specs.Meaning.{meant, meant_by, phrase, sentence, let_of, given_to, said_in, FormedIn};
 ghost use Rattle.mm_names.specs.Tidy.{tidy_of};
 
-use crate::names::{Given, windows_value};
+use crate::names::{Given, Names, windows_value};
 use crate::numbers::value_of;
 use crate::plains::plain_of;
 use crate::tidy::{Last, tidied};
@@ -40,12 +40,7 @@ fn said_in(line: &[u8]) -> Meaning
 }
 
 /// What stands behind `let`: a name, `=` and a number.
-fn let_of(
-    alloc: Global,
-    names: &[Given],
-    text: &[u8],
-    words: &mut Words,
-) -> Result<Meaning, NoMemory>
+fn let_of(alloc: Global, names: &Names, text: &[u8], words: &mut Words) -> Result<Meaning, NoMemory>
     requires { words.old.line ≡ text.now }
     ensures { IfOk result (λ m. m ≡ let_of names.now words.old.left) }
 {
@@ -65,7 +60,7 @@ fn let_of(
 }
 
 /// A name for the number that a word is.
-fn given_to(alloc: Global, names: &[Given], word: &[u8], number: &[u8]) -> Result<Meaning, NoMemory>
+fn given_to(alloc: Global, names: &Names, word: &[u8], number: &[u8]) -> Result<Meaning, NoMemory>
     ensures { IfOk result (λ m. m ≡ given_to names.now (name_of word.now) number.now) }
 {
     let Some(name) = name(word) else {
@@ -81,7 +76,7 @@ fn given_to(alloc: Global, names: &[Given], word: &[u8], number: &[u8]) -> Resul
 }
 
 /// The meaning of a line's words.
-fn sentence(alloc: Global, names: &[Given], text: &[u8]) -> Result<Meaning, NoMemory>
+fn sentence(alloc: Global, names: &Names, text: &[u8]) -> Result<Meaning, NoMemory>
     requires { length text.now + 1 < 2 ^ 32 }
     ensures { IfOk result (λ m. m ≡ sentence names.now (words_of text.now)) }
 {
@@ -106,7 +101,7 @@ fn sentence(alloc: Global, names: &[Given], text: &[u8]) -> Result<Meaning, NoMe
 }
 
 /// The meaning of a line's words, of which there may be none.
-fn phrase(alloc: Global, names: &[Given], text: &[u8]) -> Result<Meaning, NoMemory>
+fn phrase(alloc: Global, names: &Names, text: &[u8]) -> Result<Meaning, NoMemory>
     requires { length text.now + 1 < 2 ^ 32 }
     ensures { IfOk result (λ m. m ≡ phrase names.now text.now) }
 {
@@ -120,7 +115,7 @@ fn phrase(alloc: Global, names: &[Given], text: &[u8]) -> Result<Meaning, NoMemo
 const MOST_LINE: usize = 65536;
 
 /// The meaning of a line that is not plain.
-fn meant_by(alloc: Global, names: &[Given], line: &[u8]) -> Result<Meaning, NoMemory>
+fn meant_by(alloc: Global, names: &Names, line: &[u8]) -> Result<Meaning, NoMemory>
     ensures { IfOk result (λ m. m ≡ meant_by names.now (tidy_of line.now)) }
 {
     let tidy = tidied(alloc, line)?;
@@ -132,7 +127,7 @@ fn meant_by(alloc: Global, names: &[Given], line: &[u8]) -> Result<Meaning, NoMe
 
 /// What a line means.
 #[tactic(auto, unfolding(crate::specs::Meaning::meant))]
-fn meaning_of(alloc: Global, names: &[Given], line: &[u8]) -> Result<Meaning, NoMemory>
+fn meaning_of(alloc: Global, names: &Names, line: &[u8]) -> Result<Meaning, NoMemory>
     ensures { IfOk result (λ m. m ≡ meant names.now line.now) }
 {
     if line.len() > MOST_LINE {
@@ -147,7 +142,7 @@ fn meaning_of(alloc: Global, names: &[Given], line: &[u8]) -> Result<Meaning, No
 /// What a line means, without its line feed, where these names were given: a plain line what it
 /// means to `mmsim`, another what its words stand for.
 #[tactic(auto, using(crate::proofs::Formed::formed))]
-pub fn meant(alloc: Global, names: &[Given], line: &[u8]) -> Result<Meaning, NoMemory>
+pub fn meant(alloc: Global, names: &Names, line: &[u8]) -> Result<Meaning, NoMemory>
     ensures value { IfOk result (λ m. m ≡ meant names.now line.now) }
     ensures formed { IfOk result (λ m. FormedIn m) }
 {

@@ -1,9 +1,20 @@
-ghost use Rattle.std.specs.Prelude.{◌≡◌, Option, ℕ, None, bytes_eq, if◌then◌else◌};
-ghost use Rattle.mm_names.specs.Numbers.{newer, latest, value_among, memory_names, page_names, section_names, windows_value};
+ghost use Rattle.std.specs.Prelude.{◌≡◌, Option, ℕ, None, bytes_eq, option_and_then, IfOk, OnOk, if◌then◌else◌};
+ghost use Rattle.std.proofs.Common.{ap};
+ghost use Rattle.std.specs.Cmp.{partial_equiv_from_equiv};
+ghost use Rattle.std.specs.Cmp.Lexicographic.{on_texts_equal, bytes_decides};
+ghost use Rattle.std.specs.Hash as fed;
+ghost use Rattle.mm_types.specs.{Text};
+ghost use Rattle.mm_names.specs.Keys.{given_value, no_names, with_name};
+ghost use Rattle.mm_names.specs.Numbers.{value_among, memory_names, page_names, section_names, flag_names, windows_value};
 
 use crate::texts::among;
+use indexmap::IndexMap;
 use mm_script::is_text;
-use mm_types::Name;
+use mm_text::name;
+use mm_types::{Name, NoMemory};
+use std::alloc::Global;
+use std::hash::{Hash, Hasher};
+use std::marker::Model;
 
 /// A name that a script gives to a number.
 #[derive(Clone, Copy)]
@@ -12,26 +23,85 @@ pub struct Given {
     pub value: u32,
 }
 
-/// What was found before, or what this gives the word.
-fn newer(found: Option<u32>, given: &Given, word: &[u8]) -> Option<u32>
-    ensures { result ≡ newer found given.now word.now }
-{
-    if given.name.as_slice() == word {
-        Some(given.value)
-    } else {
-        found
+/// A name that can be looked up by its hash.
+#[derive(Clone, Copy)]
+struct NameKey {
+    name: Name,
+}
+
+impl PartialEq for NameKey {
+    ghost eq = { λ a b. bytes_eq a.name b.name };
+
+    ghost laws = { partial_equiv_from_equiv (on_texts_equal (λ k. k.name)) };
+
+    fn eq(&self, other: &NameKey) -> bool {
+        self.name.as_slice() == other.name.as_slice()
     }
 }
 
-/// What the script gave a word last.
-pub fn given_value(names: &[Given], word: &[u8]) -> Option<u32>
-    ensures { result ≡ latest None names.now word.now }
-{
-    let mut found = None;
-    for given in names {
-        found = newer(found, given, word);
+impl Eq for NameKey {
+    ghost laws = { on_texts_equal (λ k. k.name) };
+}
+
+impl Hash for NameKey {
+    ghost hash_input = { λ k. fed.slice fed.u8 k.name };
+
+    ghost respects_eq = { λ a b h. ap (fed.slice fed.u8) ((bytes_decides a.name b.name).0 h) };
+
+    fn hash<H: Hasher>(&self, state: &mut H) {
+        self.name.as_slice().hash(state);
     }
-    found
+}
+
+/// The names that a script gave to numbers, each with the value that it was given last.
+#[derive(Drop)]
+pub struct Names {
+    values: IndexMap<NameKey, u32>,
+}
+
+impl Model for Names {
+    ghost use Rattle.mm_names.specs.Keys.{NamesOf};
+
+    ghost Value = { NamesOf };
+
+    ghost view = { λ n. n.values.entries };
+}
+
+impl Names {
+    /// No name was given.
+    pub fn new(alloc: Global) -> Names
+        ensures { result ≡ no_names }
+    {
+        Names {
+            values: IndexMap::new(alloc),
+        }
+    }
+
+    /// Gives a name to a number.
+    pub fn give(&mut self, given: &Given) -> Result<(), NoMemory>
+        ensures { OnOk result (self.new ≡ with_name self.old given.now) }
+    {
+        self.values
+            .insert(NameKey { name: given.name }, given.value)?;
+        Ok(())
+    }
+
+    /// What the script gave a word last.
+    pub fn value(&self, word: &[u8]) -> Option<u32>
+        ensures { result ≡ given_value self.now word.now }
+    {
+        let name = name(word)?;
+        self.values.get(&NameKey { name }).copied()
+    }
+
+    /// The names.
+    pub fn names(&self, alloc: Global) -> Result<Vec<Name>, NoMemory> {
+        let mut names = Vec::new(alloc);
+        for key in self.values.keys() {
+            names.push(key.name)?;
+        }
+        Ok(names)
+    }
 }
 
 /// The value of one of Windows' names for kinds of allocation.
@@ -78,6 +148,15 @@ fn section_value(word: &[u8]) -> Option<u32>
     )
 }
 
+/// The value of one of Windows' names for flags of a call.
+fn flag_value(word: &[u8]) -> Option<u32>
+    ensures { result ≡ value_among flag_names word.now }
+{
+    among!(word,
+        b"WRITE_WATCH_FLAG_RESET" => 1,
+    )
+}
+
 /// The value of a name of Windows.
 pub fn windows_value(word: &[u8]) -> Option<u32>
     ensures { result ≡ windows_value word.now }
@@ -86,7 +165,10 @@ pub fn windows_value(word: &[u8]) -> Option<u32>
         Some(value) => Some(value),
         None => match page_value(word) {
             Some(value) => Some(value),
-            None => section_value(word),
+            None => match section_value(word) {
+                Some(value) => Some(value),
+                None => flag_value(word),
+            },
         },
     }
 }

@@ -2,7 +2,7 @@ ghost use Rattle.std.specs.Prelude.{◌≡◌, ◌<◌, ◌+◌, ◌^◌, ◌++�
 ghost use Rattle.mm_text.specs.{hex_short, WordsOf, words_of};
 ghost use Rattle.mm_names.specs.{unquoted, plain_word, plain_from, plain_of, with_word};
 
-use crate::names::Given;
+use crate::names::Names;
 use crate::numbers::value_of;
 use crate::words::{Kind, Verb, kind_at, lowered, next_number, verb_after, verb_of};
 use mm_text::{LineBuf, Words, put_hex_short};
@@ -31,7 +31,7 @@ fn number_word(alloc: Global, n: u32) -> Result<Vec<u8>, NoMemory>
 }
 
 /// The plain word for a number.
-fn plain_number(alloc: Global, names: &[Given], word: &[u8]) -> Result<Option<Vec<u8>>, NoMemory>
+fn plain_number(alloc: Global, names: &Names, word: &[u8]) -> Result<Option<Vec<u8>>, NoMemory>
     ensures { IfOk result (λ w. option_map (λ v. v.items) w
         ≡ plain_word names.now Kind.Number word.now) }
 {
@@ -44,7 +44,7 @@ fn plain_number(alloc: Global, names: &[Given], word: &[u8]) -> Result<Option<Ve
 /// The plain word for a written one of this kind.
 fn plain_word(
     alloc: Global,
-    names: &[Given],
+    names: &Names,
     kind: Kind,
     word: &[u8],
 ) -> Result<Option<Vec<u8>>, NoMemory>
@@ -63,7 +63,7 @@ fn plain_word(
 fn push_word(
     line: &mut Vec<u8>,
     alloc: Global,
-    names: &[Given],
+    names: &Names,
     kind: Kind,
     word: &[u8],
 ) -> Result<bool, NoMemory>
@@ -84,7 +84,7 @@ fn push_word(
 /// where a word stands for none.
 pub fn plain_of(
     alloc: Global,
-    names: &[Given],
+    names: &Names,
     keyword: &[u8],
     text: &[u8],
     words: &mut Words,

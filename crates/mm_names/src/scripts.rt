@@ -4,7 +4,7 @@ ghost use Rattle.mm_names.specs.Scripts.{is_machine, may_stand, placed_line, lin
 ghost use Rattle.mm_names.specs.Stages.{unread, with_event, with_meaning, with_line, with_lines, is_whole, Ends};
 
 use crate::meanings::{Meaning, meant};
-use crate::names::Given;
+use crate::names::Names;
 use mm_script::print_event;
 use mm_text::LineBuf;
 use mm_types::{AccessSpec, Event, Name, NoMemory};
@@ -45,7 +45,7 @@ pub fn without_mark(text: &[u8]) -> &[u8]
 /// A script as it is written, line by line.
 #[derive(Drop)]
 pub struct Script {
-    names: Vec<Given>,
+    names: Names,
     begun: bool,
     clean: bool,
     text: Vec<u8>,
@@ -62,7 +62,7 @@ impl Model for Script {
     ghost Value = { ScriptOf };
 
     ghost view = { λ s. record {
-      names = s.names.items;
+      names = s.names;
       begun = s.begun;
       clean = s.clean;
       text = s.text.items;
@@ -76,7 +76,7 @@ impl Script {
         ensures { result ≡ unread }
     {
         Script {
-            names: Vec::new(alloc),
+            names: Names::new(alloc),
             begun: false,
             clean: true,
             text: Vec::new(alloc),
@@ -138,10 +138,7 @@ impl Script {
     {
         match meaning {
             Meaning::Nothing => Ok(()),
-            Meaning::Gives(given) => {
-                self.names.push(*given)?;
-                Ok(())
-            }
+            Meaning::Gives(given) => self.names.give(given),
             Meaning::Says(event) => self.say(event),
             Meaning::Wrong => {
                 self.clean = false;
@@ -159,7 +156,7 @@ impl Script {
         let _name: Option<Name> = None;
         let _access: Option<AccessSpec> = None;
         self.number = self.number.saturating_add(1);
-        let meaning = meant(alloc, self.names.as_slice(), line)?;
+        let meaning = meant(alloc, &self.names, line)?;
         self.take(&meaning)
     }
 }

@@ -1,6 +1,6 @@
-ghost use Rattle.std.specs.Prelude.{◌≡◌, ◌∷◌, ◌++◌, [], OnOk, IfOk, if◌then◌else◌};
+ghost use Rattle.std.specs.Prelude.{◌≡◌, ◌∷◌, ◌++◌, [], length, OnOk, IfOk, if◌then◌else◌};
 ghost use Rattle.mm_types.specs.{byte_pairs};
-ghost use Rattle.mm_names.specs.Tidy.{sign_of, added, last_after, with_byte, untouched, with_bytes};
+ghost use Rattle.mm_names.specs.Tidy.{sign_of, sign_at, is_slashed, word_follows, is_parted, added, last_after, with_byte, untouched, with_bytes};
 
 use mm_text::{LineBuf, put_bytes};
 use mm_types::NoMemory;
@@ -12,11 +12,13 @@ use std::marker::Model;
 pub enum Sign {
     /// Parts words: a space, a tab, a parenthesis or a comma.
     Blank,
-    /// Begins a comment.
+    /// Begins a comment: `#`, `;` or `//`.
     Hash,
     Quote,
-    /// Joins the terms of a number: `+` or `|`.
+    /// Joins the parts of a number: `+`, `|`, `*` or `<`.
     Operator,
+    /// A `-` between words parted by spaces.
+    Minus,
     Equals,
     Letter,
 }
@@ -33,18 +35,63 @@ pub enum Last {
     Comment,
 }
 
-/// What a byte is.
+/// What a byte is by itself.
 fn sign_of(byte: u8) -> Sign
     ensures { result ≡ sign_of byte }
 {
     match byte {
         b' ' | b'\t' | b'(' | b')' | b',' => Sign::Blank,
-        b'#' => Sign::Hash,
+        b'#' | b';' => Sign::Hash,
         b'"' => Sign::Quote,
-        b'+' | b'|' => Sign::Operator,
+        b'+' | b'|' | b'*' | b'<' => Sign::Operator,
         b'=' => Sign::Equals,
         _ => Sign::Letter,
     }
+}
+
+/// Whether a slash follows.
+fn is_slashed(rest: &[u8]) -> bool
+    ensures { result ≡ is_slashed rest.now }
+{
+    match rest {
+        [first, ..] => *first == b'/',
+        [] => false,
+    }
+}
+
+/// Whether a word follows behind spaces.
+fn word_follows(rest: &[u8]) -> bool
+    ensures { result ≡ word_follows rest.now }
+{
+    for byte in rest {
+        if *byte != b' ' && *byte != b'\t' {
+            return sign_of(*byte) == Sign::Letter;
+        }
+    }
+    false
+}
+
+/// Whether a space follows, and behind it a word.
+fn is_parted(rest: &[u8]) -> bool
+    ensures { result ≡ is_parted rest.now }
+{
+    match rest {
+        [b' ' | b'\t', behind @ ..] => word_follows(behind),
+        _ => false,
+    }
+}
+
+/// What a byte is, with these behind it.
+fn sign_at(byte: u8, rest: &[u8]) -> Sign
+    ensures { result ≡ sign_at byte rest.now }
+{
+    if byte == b'/' && is_slashed(rest) {
+        return Sign::Hash;
+    }
+    if byte == b'-' && is_parted(rest) {
+        return Sign::Minus;
+    }
+    sign_of(byte)
 }
 
 /// What came last, after a byte of this sign.
@@ -63,6 +110,8 @@ fn last_after(last: Last, sign: Sign) -> Last
         (_, Sign::Operator) => Last::Operator,
         (_, Sign::Equals) => Last::Blank,
         (_, Sign::Letter) => Last::Word,
+        (Last::Blank, Sign::Minus) => Last::Operator,
+        (_, Sign::Minus) => Last::Word,
     }
 }
 
@@ -74,6 +123,15 @@ fn push_behind(text: &mut Vec<u8>, gap: bool, byte: u8) -> Result<(), NoMemory>
     if gap {
         text.push(b' ')?;
     }
+    text.push(byte)?;
+    Ok(())
+}
+
+/// A `-` as a sum with what is taken away.
+fn push_minus(text: &mut Vec<u8>, byte: u8) -> Result<(), NoMemory>
+    ensures { OnOk result (text.new.items ≡ text.old.items ++ (0x2B ∷ byte ∷ [])) }
+{
+    text.push(b'+')?;
     text.push(byte)?;
     Ok(())
 }
@@ -99,6 +157,7 @@ fn push_added(text: &mut Vec<u8>, last: Last, sign: Sign, byte: u8) -> Result<()
         (_, Sign::Blank) => Ok(()),
         (_, Sign::Hash) => Ok(()),
         (_, Sign::Operator) => push_behind(text, false, byte),
+        (Last::Blank, Sign::Minus) => push_minus(text, byte),
         (Last::Word, Sign::Equals) => push_behind(text, true, byte),
         (Last::Blank, _) => push_behind(text, true, byte),
         (_, _) => push_behind(text, false, byte),
@@ -156,11 +215,10 @@ impl Tidy {
         }
     }
 
-    /// A byte more, which stands in this column.
-    fn take(&mut self, byte: u8, column: u32) -> Result<(), NoMemory>
-        ensures { OnOk result (self.new ≡ with_byte self.old byte) }
+    /// A byte more, of this sign, which stands in this column.
+    fn take(&mut self, byte: u8, sign: Sign, column: u32) -> Result<(), NoMemory>
+        ensures { OnOk result (self.new ≡ with_byte self.old byte sign) }
     {
-        let sign = sign_of(byte);
         push_added(&mut self.text, self.last, sign, byte)?;
         self.columns.resize(self.text.len(), column)?;
         self.last = last_after(self.last, sign);
@@ -174,9 +232,11 @@ pub fn tidied(alloc: Global, line: &[u8]) -> Result<Tidy, NoMemory>
 {
     let mut tidy = Tidy::new(alloc);
     let mut column = 0u32;
-    for byte in line {
+    let mut left = line;
+    while let [byte, rest @ ..] = left {
         column = column.saturating_add(1);
-        tidy.take(*byte, column)?;
+        tidy.take(*byte, sign_at(*byte, rest), column)?;
+        left = rest;
     }
     Ok(tidy)
 }

@@ -55,9 +55,13 @@ fn memory_call(word: &[u8]) -> Option<&'static [u8]>
 {
     among!(word,
         b"virtualalloc" => b"alloc",
+        b"virtualallocex" => b"alloc",
         b"virtualfree" => b"free",
+        b"virtualfreeex" => b"free",
         b"virtualprotect" => b"protect",
+        b"virtualprotectex" => b"protect",
         b"virtualquery" => b"query",
+        b"virtualqueryex" => b"query",
         b"getwritewatch" => b"watch",
         b"resetwritewatch" => b"resetwatch",
         b"exitprocess" => b"exit",
@@ -70,9 +74,14 @@ fn section_call(word: &[u8]) -> Option<&'static [u8]>
 {
     among!(word,
         b"createfilemapping" => b"create",
+        b"createfilemappinga" => b"create",
+        b"createfilemappingw" => b"create",
         b"openfilemapping" => b"open",
+        b"openfilemappinga" => b"open",
+        b"openfilemappingw" => b"open",
         b"closehandle" => b"close",
         b"mapviewoffile" => b"map",
+        b"mapviewoffileex" => b"map",
         b"unmapviewoffile" => b"unmap",
         b"flushviewoffile" => b"flush",
     )

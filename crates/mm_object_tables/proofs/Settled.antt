@@ -20,7 +20,7 @@ use Rattle.mm_world.specs.{process_charge, own_page, private_key, Tables, blank,
 use Rattle.mm_world.specs.WellFormed.{WellFormed}
 use Rattle.mm_world.proofs.{each-at, every_page-at, is_placed, same_place, found_stands, own_in, charge-set_region, private_kind, and-true, or-false}
 use Rattle.mm_world.proofs.{laid_at, apart_too, holds_first, lies, rows_committed, rows_cleared, rows_protected}
-use Rattle.mm_store.specs.{place_at, StoreOf, Ghosts as PagesGhosts, AreAmong, leaving, page_rank}
+use Rattle.mm_store.specs.{place_at, StoreOf, Ghosts as PageStoreGhosts, AreAmong, leaving, page_rank}
 use Rattle.mm_address_spaces.specs.{owned_in, rows_of}
 use Rattle.mm_object_tables.specs.{CanMake, key_in, Effect, Makes, Ends, Leaves, RangeStored, Moves, Roomier, keys_of, FitsTables, key_at, new_pages}
 use Rattle.mm_object_tables.specs.{new_marks, paging_count, owned_keys, CarriesPages, Settled, store_beside, CanRelease, GivenUp, CanAdd, passing}
@@ -259,11 +259,11 @@ settled_then {e = e} {z = z} more h =
     record { fits = h.fits; carries = subst (λ (c : Key → Option Page). CarriesPages c e) more.contents h.carries; rest = h.rest ∙ ap (λ (x : StoreOf). store_beside x z) more.store }
 
 -- memory ran out
-pub out_of_memory : {G : Type 0} (gs : PagesGhosts G) {T : Type 0} (result : Result T NoMemory) {old new : Tables} {g h : G} → FitsTables old (gs.contents g) (gs.store g) → new ≡ old → Roomier (gs.contents g) (gs.contents h) (gs.store g) (gs.store h) → SettlesTables gs result old new g h
+pub out_of_memory : {G : Type 0} (gs : PageStoreGhosts G) {T : Type 0} (result : Result T NoMemory) {old new : Tables} {g h : G} → FitsTables old (gs.contents g) (gs.store g) → new ≡ old → Roomier (gs.contents g) (gs.contents h) (gs.store g) (gs.store h) → SettlesTables gs result old new g h
 out_of_memory gs result fits same more = record { err = on_err result (same, more.contents); settled = roomier_settled fits same more }
 
 -- both change together: pages of a range of a process go
-pub frees : {G : Type 0} (gs : PagesGhosts G) {goes : Bool} {pid : Pid} {range : Range} {old new : Tables} {g h : G} → Settled new (gs.contents g) (gs.contents h) (gs.store g) (gs.store h) → AreAmong (leaving old pid.0 (is_uncommitted new)) 1 (page_rank end_of_user_pages) pid range → GivesUp gs goes pid range g h → Frees gs pid range old new g h
+pub frees : {G : Type 0} (gs : PageStoreGhosts G) {goes : Bool} {pid : Pid} {range : Range} {old new : Tables} {g h : G} → Settled new (gs.contents g) (gs.contents h) (gs.store g) (gs.store h) → AreAmong (leaving old pid.0 (is_uncommitted new)) 1 (page_rank end_of_user_pages) pid range → GivesUp gs goes pid range g h → Frees gs pid range old new g h
 frees gs settled among gives = record { settled = settled; among = among; passes = gives.passes; loans = gives.loans }
 
 pub settled_as : {t after : Tables} {c d : Key → Option Page} {s z : StoreOf} → after ≡ t → Settled t c d s z → Settled after c d s z

@@ -4,12 +4,12 @@ use Rattle.std.specs.Prelude.{Result, Ok, OnErr}
 use Rattle.mm_move_rules.proofs.{grew_nothing}
 use Rattle.mm_types.specs.{NoMemory}
 use Rattle.mm_types.proofs.{on_err}
-use Rattle.mm_store.specs.{NotesIn, Turn, Turns, Makes as Making, Ghosts as PagesGhosts}
+use Rattle.mm_store.specs.{NotesIn, Turn, Turns, Makes as Making, Ghosts as PageStoreGhosts}
 use Rattle.mm_store.specs.Behind.{Behind}
 use Rattle.mm_store.proofs.Passed as passed
 use Rattle.mm_object_tables.specs.{PassesAs, MakesPages, MakesWithin}
 
-module _ {G : Type 0} (p : PagesGhosts G) where
+module _ {G : Type 0} (p : PageStoreGhosts G) where
   -- two calls of which each is of any turn are so together
   pub idle_then : (g h k : G) → ((turn : Turn) → PassesAs p turn g h) → ((turn : Turn) → PassesAs p turn h k) → (turn : Turn) → PassesAs p turn g k
   idle_then g h k a b turn = passed.idle_then p.unpaged turn (p.store g) (p.store h) (p.store k) (p.behind g) (p.behind h) (p.behind k) a b
@@ -43,5 +43,5 @@ notes_nothing false t b = record {
 }
 
 -- a call that makes pages, where what it answers is handed on otherwise
-pub makes_as : {G : Type 0} (p : PagesGhosts G) {Stand : ℕ → ℕ → Type 0} {T U : Type 0} {r : Result T NoMemory} (q : Result U NoMemory) {g h : G} → OnErr q ((turn : Turn) → PassesAs p turn g h) → MakesWithin p Stand r g h → MakesWithin p Stand q g h
+pub makes_as : {G : Type 0} (p : PageStoreGhosts G) {Stand : ℕ → ℕ → Type 0} {T U : Type 0} {r : Result T NoMemory} (q : Result U NoMemory) {g h : G} → OnErr q ((turn : Turn) → PassesAs p turn g h) → MakesWithin p Stand r g h → MakesWithin p Stand q g h
 makes_as p q idle m = record { later = m.later; passes = m.passes; idle = idle; loans = m.loans }

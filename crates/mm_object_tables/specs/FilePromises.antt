@@ -4,7 +4,7 @@ use Rattle.mm_types.specs.{MakeFault, Text}
 use Rattle.mm_types.specs.declared.faults.MakeFault.TheVariants as make_fault
 use Rattle.mm_devices.specs.{CallFailed}
 use Rattle.mm_world.specs.{Tables, blank, new_file, file_named}
-use Rattle.mm_store.specs.{Ghosts as PagesGhosts, Turns, Makes, NotesIn, FileMade, Served, with_file}
+use Rattle.mm_store.specs.{Ghosts as PageStoreGhosts, Turns, Makes, NotesIn, FileMade, Served, with_file}
 use Rattle.mm_object_tables.specs.Fits.{FitsTables, beside_file}
 
 -- no file has the name, and there are blocks for its pages
@@ -13,7 +13,7 @@ pub record IsNewFile (name : Text) (pages : ℕ) (t : Tables) : Type 0 where
   pub unnamed : file_named t name ≡ None
   pub room : t.blocks_used + pages ≤ t.machine.blocks
 
-module _ {G : Type 0} (p : PagesGhosts G) where
+module _ {G : Type 0} (p : PageStoreGhosts G) where
   -- tables and bytes with the file, or as before
   pub record MakesFile {T : Type 0} (name : Text) (pages byte : ℕ) (result : Result T MakeFault)
       (old new : Tables) (g h : G) : Type 0 where

@@ -7,7 +7,7 @@ use Rattle.mm_world.specs.{AreaOf, RegionOf, ProcessOf, numbered, Found, process
 use Rattle.mm_world.specs.{is_protection_among, private_protections, all_protections, is_committed_at, every_page, accepts}
 use Rattle.mm_sections.specs.{CountedSection, DirectoryOf, section_settled, uncommitted_in}
 use Rattle.mm_address_spaces.specs.{owned_in}
-use Rattle.mm_store.specs.{Ghosts as PagesGhosts, AllBound, AreAmong, Turn, Turns, Makes as Making, MakesFrom, leaving, page_rank, PassesIn}
+use Rattle.mm_store.specs.{Ghosts as PageStoreGhosts, AllBound, AreAmong, Turn, Turns, Makes as Making, MakesFrom, leaving, page_rank, PassesIn}
 use Rattle.mm_store.specs.Housekeeping.{Ends as Ending}
 use Rattle.mm_store.specs.Leaving.{Leaving}
 use Rattle.mm_object_tables.specs.Effects.{Effect, RangeStored}
@@ -87,7 +87,7 @@ pub record LosesReference (less : CountedSection → CountedSection) (number : �
       result ≡ (if is_some (section_settled (less c)) then None else
       Some (record { 0 = c.section.area }))
 
-module _ {G : Type 0} (p : PagesGhosts G) where
+module _ {G : Type 0} (p : PageStoreGhosts G) where
   -- a line of this kind, in which the process lives and the store fits the tables
   pub record IsReadyFor (kind : LineKind) (pid : Pid) (t : Tables) (g : G) : Type 0 where
     pub fits : FitsTables t (p.contents g) (p.store g)

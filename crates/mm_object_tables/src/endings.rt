@@ -17,9 +17,9 @@ ghost use Rattle.mm_world.specs.WellFormed.{WellFormed};
 use crate::Tables;
 use crate::keys::{end_area, release_pages};
 use crate::tables::{Process, handles_of, space_of};
-use mm_store::Pages;
-use mm_sections::Directory;
 use mm_address_spaces::{PageRange, RegionInfo};
+use mm_sections::Directory;
+use mm_store::PageStore;
 use mm_types::{Area, Kind, PAGE_SIZE, Pid, SectionId, View};
 
 /// One handle less refers to a section. Tells its control area, where it ended.
@@ -50,7 +50,7 @@ fn empty_place(process: &mut Option<Process>)
 impl Tables {
     /// `drop_handle`, which also tells that keys that live on keep their bytes.
     #[tactic(auto, using(mm_store::proofs::Passed::turns_same))]
-    fn close_handle<G: Pages>(&mut self, g: &mut G, pid: Pid, handle: u32)
+    fn close_handle<G: PageStore>(&mut self, g: &mut G, pid: Pid, handle: u32)
         requires fits { FitsTables self.old (G.contents g.old) (G.store g.old) }
         requires kind { IsReleasing (G.store g.old).kind }
         requires lives { is_some (process_of self.old pid.0) ≡ true }
@@ -60,10 +60,10 @@ impl Tables {
             self.new ≡ settle (set_process self.old pid.0 (Some (record p {
               handles = slice_set p.handles (handle / 4) None;
             }))) }
-        ensures shrinks { Shrinks G.Pages self.new g.old g.new }
+        ensures shrinks { Shrinks G.PageStore self.new g.old g.new }
         ensures passes { (held : Leaving) (from to : ℕ) → IsRankFor held.rank pid.0 self.old
             → from ≤ handle / 4 + 1 → handle / 4 + 1 < to →
-            PassesAs G.Pages (Ends held from to) g.old g.new }
+            PassesAs G.PageStore (Ends held from to) g.old g.new }
     {
         let handles = handles_of(&mut self.processes[pid.0 as usize - 1]);
         let Some(id) = handles.section(handle) else {
@@ -78,8 +78,15 @@ impl Tables {
     }
 
     /// `remove_view`, which also tells that keys that live on keep their bytes.
-    fn unmap_view<G: Pages>(&mut self, g: &mut G, pid: Pid, addr: u32, range: PageRange, view: View)
-        requires ready { IsReadyFor G.Pages (line_kind.Unbind pid) pid self.old g.old }
+    fn unmap_view<G: PageStore>(
+        &mut self,
+        g: &mut G,
+        pid: Pid,
+        addr: u32,
+        range: PageRange,
+        view: View,
+    )
+        requires ready { IsReadyFor G.PageStore (line_kind.Unbind pid) pid self.old g.old }
         requires there { (p : ProcessOf (Unit {0})) → process_of self.old pid.0 ≡ Some p →
             option_map found_info (view_at p.regions addr) ≡ Some (record {
               pages = range;
@@ -88,10 +95,10 @@ impl Tables {
         ensures removed { (p : ProcessOf (Unit {0})) (r : Found (RegionOf (Unit {0}))) →
             process_of self.old pid.0 ≡ Some p → view_at p.regions addr ≡ Some r →
             self.new ≡ settle (set_regions self.old pid.0 p (remove p.regions r.place)) }
-        ensures shrinks { Shrinks G.Pages self.new g.old g.new }
+        ensures shrinks { Shrinks G.PageStore self.new g.old g.new }
         ensures unbound { AreUnbound pid range (G.store g.new) }
         ensures passes { (held : Leaving) (from to : ℕ) → IsRankFor held.rank pid.0 self.old
-            → AreAmong held from to pid range → PassesAs G.Pages (Ends held from to) g.old g.new }
+            → AreAmong held from to pid range → PassesAs G.PageStore (Ends held from to) g.old g.new }
     {
         let space = space_of(&mut self.processes[pid.0 as usize - 1]);
         let marked = space.marked(range);
@@ -107,7 +114,7 @@ impl Tables {
 
     /// Closes a handle that a process has. A section to which nothing refers any more ends, and
     /// with a page-file section its pages; a name is gone with the section's last handle.
-    pub fn drop_handle<G: Pages>(&mut self, g: &mut G, pid: Pid, handle: u32)
+    pub fn drop_handle<G: PageStore>(&mut self, g: &mut G, pid: Pid, handle: u32)
         requires fits { FitsTables self.old (G.contents g.old) (G.store g.old) }
         requires kind { IsReleasing (G.store g.old).kind }
         requires lives { is_some (process_of self.old pid.0) ≡ true }
@@ -120,7 +127,7 @@ impl Tables {
         ensures settled { Settled self.new (G.contents g.old) (G.contents g.new) (G.store g.old)
             (G.store g.new) }
         ensures passes { (places : Place → Bool) →
-            PassesAs G.Pages (Goes (leaving self.old pid.0 places)) g.old g.new }
+            PassesAs G.PageStore (Goes (leaving self.old pid.0 places)) g.old g.new }
         ensures loans { G.loans g.new ≡ G.loans g.old }
     {
         self.sound();
@@ -129,7 +136,7 @@ impl Tables {
 
     /// Unmaps the view of a process that begins at the address and has these pages. A section to
     /// which nothing refers any more ends, and with a page-file section its pages.
-    pub fn remove_view<G: Pages>(
+    pub fn remove_view<G: PageStore>(
         &mut self,
         g: &mut G,
         pid: Pid,
@@ -137,7 +144,7 @@ impl Tables {
         range: PageRange,
         view: View,
     )
-        requires ready { IsReadyFor G.Pages (line_kind.Unbind pid) pid self.old g.old }
+        requires ready { IsReadyFor G.PageStore (line_kind.Unbind pid) pid self.old g.old }
         requires there { (p : ProcessOf (Unit {0})) → process_of self.old pid.0 ≡ Some p →
             option_map found_info (view_at p.regions addr) ≡ Some (record {
               pages = range;
@@ -148,7 +155,7 @@ impl Tables {
             self.new ≡ settle (set_regions self.old pid.0 p (remove p.regions r.place)) }
         ensures settled { Settled self.new (G.contents g.old) (G.contents g.new) (G.store g.old)
             (G.store g.new) }
-        ensures passes { PassesAs G.Pages (Goes (leaving self.old pid.0 (is_uncommitted self.new)))
+        ensures passes { PassesAs G.PageStore (Goes (leaving self.old pid.0 (is_uncommitted self.new)))
             g.old g.new }
         ensures loans { G.loans g.new ≡ G.loans g.old }
     {
@@ -181,12 +188,12 @@ impl Tables {
 
     /// Closes all handles of a process, in rising order.
     #[tactic(auto, using(mm_store::proofs::Passed::turns_same))]
-    fn close_handles<G: Pages>(&mut self, g: &mut G, pid: Pid)
-        requires ready { IsReadyFor G.Pages (line_kind.Unbind pid) pid self.old g.old }
-        ensures nears { Nears G.Pages pid self.old self.new g.old g.new }
+    fn close_handles<G: PageStore>(&mut self, g: &mut G, pid: Pid)
+        requires ready { IsReadyFor G.PageStore (line_kind.Unbind pid) pid self.old g.old }
+        ensures nears { Nears G.PageStore pid self.old self.new g.old g.new }
         ensures closed { ForSome (process_of self.new pid.0) (λ p. HasNoHandle p) }
         ensures passes { (held : Leaving) → IsRankFor held.rank pid.0 self.old →
-            PassesAs G.Pages (Ends held 1 (page_rank 0)) g.old g.new }
+            PassesAs G.PageStore (Ends held 1 (page_rank 0)) g.old g.new }
     {
         while let Some(handle) = self.lowest_handle(pid) {
             self.close_handle(g, pid, handle);
@@ -194,18 +201,18 @@ impl Tables {
     }
 
     /// Releases or unmaps the lowest region of a process, of which this is told.
-    fn drop_lowest<G: Pages>(&mut self, g: &mut G, pid: Pid, info: RegionInfo)
-        requires ready { IsReadyFor G.Pages (line_kind.Unbind pid) pid self.old g.old }
+    fn drop_lowest<G: PageStore>(&mut self, g: &mut G, pid: Pid, info: RegionInfo)
+        requires ready { IsReadyFor G.PageStore (line_kind.Unbind pid) pid self.old g.old }
         requires there { (p : ProcessOf (Unit {0})) → process_of self.old pid.0 ≡ Some p →
             option_map info_of (slice_get p.regions 0) ≡ Some info }
         requires within { end_of info.pages ≤ end_of_user_pages }
         requires closed { ForSome (process_of self.old pid.0) (λ p. HasNoHandle p) }
-        ensures nears { Nears G.Pages pid self.old self.new g.old g.new }
+        ensures nears { Nears G.PageStore pid self.old self.new g.old g.new }
         ensures fewer { (p q : ProcessOf (Unit {0})) → process_of self.old pid.0 ≡ Some p →
             process_of self.new pid.0 ≡ Some q → Fewer p q }
         ensures passes { (held : Leaving) (from to : ℕ) → IsRankFor held.rank pid.0 self.old
             → AreAmong held from to pid info.pages →
-            PassesAs G.Pages (Ends held from to) g.old g.new }
+            PassesAs G.PageStore (Ends held from to) g.old g.new }
     {
         let range = info.pages;
         let addr = range.first * PAGE_SIZE;
@@ -217,15 +224,15 @@ impl Tables {
 
     /// Releases and unmaps all regions of a process, from the lowest on.
     #[tactic(auto, using(mm_store::proofs::Passed::turns_same))]
-    fn drop_regions<G: Pages>(&mut self, g: &mut G, pid: Pid)
-        requires ready { IsReadyFor G.Pages (line_kind.Unbind pid) pid self.old g.old }
+    fn drop_regions<G: PageStore>(&mut self, g: &mut G, pid: Pid)
+        requires ready { IsReadyFor G.PageStore (line_kind.Unbind pid) pid self.old g.old }
         requires closed { ForSome (process_of self.old pid.0) (λ p. HasNoHandle p) }
-        ensures nears { Nears G.Pages pid self.old self.new g.old g.new }
+        ensures nears { Nears G.PageStore pid self.old self.new g.old g.new }
         ensures closed { ForSome (process_of self.new pid.0) (λ p. HasNoHandle p) }
         ensures empty { ForSome (process_of self.new pid.0) (λ p. p.regions ≡ []) }
         ensures passes { (held : Leaving) → IsRankFor held.rank pid.0 self.old
             → ((page : ℕ) → held.places (place_at pid page) ≡ true) →
-            PassesAs G.Pages (Ends held (page_rank 0) (page_rank end_of_user_pages)) g.old g.new }
+            PassesAs G.PageStore (Ends held (page_rank 0) (page_rank end_of_user_pages)) g.old g.new }
     {
         while let Some(info) = self.lowest(pid) {
             self.drop_lowest(g, pid, info);
@@ -233,15 +240,15 @@ impl Tables {
     }
 
     /// Ends a process that has no handle and no region.
-    fn close_process<G: Pages>(&mut self, g: &mut G, pid: Pid)
+    fn close_process<G: PageStore>(&mut self, g: &mut G, pid: Pid)
         requires fits { FitsTables self.old (G.contents g.old) (G.store g.old) }
         requires lives { is_some (process_of self.old pid.0) ≡ true }
         requires closed { ForSome (process_of self.old pid.0) (λ p. HasNoHandle p) }
         requires empty { ForSome (process_of self.old pid.0) (λ p. p.regions ≡ []) }
         requires nobody { NobodyKeeps pid.0 self.old }
         ensures ended { self.new ≡ settle (set_process self.old pid.0 None) }
-        ensures shrinks { Shrinks G.Pages self.new g.old g.new }
-        ensures passes { (turn : Turn) → PassesAs G.Pages turn g.old g.new }
+        ensures shrinks { Shrinks G.PageStore self.new g.old g.new }
+        ensures passes { (turn : Turn) → PassesAs G.PageStore turn g.old g.new }
     {
         g.close_process(pid);
         empty_place(&mut self.processes[pid.0 as usize - 1]);
@@ -249,8 +256,8 @@ impl Tables {
 
     /// Ends a living process: what threads keep of it and its stacks are gone, its handles are
     /// closed in rising order, then its regions unmapped or released from the lowest on.
-    pub fn end_process<G: Pages>(&mut self, g: &mut G, pid: Pid)
-        requires ready { IsReadyFor G.Pages (line_kind.Unbind pid) pid self.old g.old }
+    pub fn end_process<G: PageStore>(&mut self, g: &mut G, pid: Pid)
+        requires ready { IsReadyFor G.PageStore (line_kind.Unbind pid) pid self.old g.old }
         ensures ended { self.new ≡ settle (set_process (end_stacks (record self.old {
           kept = map (kept_of_others pid.0) self.old.kept;
         }) (λ s. s.pid == pid.0)) pid.0 None) }
@@ -258,7 +265,7 @@ impl Tables {
             (G.store g.new) }
         ensures passes { (places : Place → Bool) →
             ((page : ℕ) → places (place_at pid page) ≡ true) →
-            PassesAs G.Pages (Goes (leaving self.old pid.0 places)) g.old g.new }
+            PassesAs G.PageStore (Goes (leaving self.old pid.0 places)) g.old g.new }
         ensures loans { G.loans g.new ≡ G.loans g.old }
     {
         self.sound();

@@ -9,10 +9,10 @@ ghost use Rattle.mm_store.specs.Housekeeping.{Ends};
 ghost use Rattle.mm_store.specs.Leaving.{Leaving};
 ghost use Rattle.mm_address_spaces.specs.{owned_in};
 
-use mm_commit_charge::Commit;
-use mm_store::Pages;
-use mm_sections::SectionPages;
 use mm_address_spaces::{AddressSpace, PageRange};
+use mm_commit_charge::Commit;
+use mm_sections::SectionPages;
+use mm_store::PageStore;
 use mm_types::{Area, Key, Pid, Vpn};
 
 /// So many pages are gone through one by one, where some have bytes of their own.
@@ -56,11 +56,11 @@ fn is_owned(space: &AddressSpace, page: u32, known: Option<bool>) -> bool
 
 /// Adds the page's key if it is not committed, of which this is known.
 #[tactic(auto, using(mm_store::proofs::Passed::turns_same))]
-fn add_page<G: Pages>(g: &mut G, space: &AddressSpace, pid: Pid, page: u32, known: Option<bool>)
+fn add_page<G: PageStore>(g: &mut G, space: &AddressSpace, pid: Pid, page: u32, known: Option<bool>)
     requires known { KnownAt known space.now.regions page }
     requires can { CanAdd pid (one_page_range page) space.now.regions (G.contents g.old)
         (G.store g.old) }
-    ensures { AddsOwn G.Pages pid (one_page_range page) g.old g.new }
+    ensures { AddsOwn G.PageStore pid (one_page_range page) g.old g.new }
 {
     if !is_owned(space, page, known) {
         g.add(Key::Private(pid, Vpn(page)));
@@ -70,7 +70,7 @@ fn add_page<G: Pages>(g: &mut G, space: &AddressSpace, pid: Pid, page: u32, know
 /// Adds the keys of those pages of the range that are not committed, of which this is known, in
 /// rising order.
 #[tactic(auto, using(mm_store::proofs::Passed::turns_same))]
-pub(crate) fn add_pages<G: Pages>(
+pub(crate) fn add_pages<G: PageStore>(
     g: &mut G,
     space: &AddressSpace,
     pid: Pid,
@@ -80,7 +80,7 @@ pub(crate) fn add_pages<G: Pages>(
     requires known { KnownIn known space.now.regions range }
     requires end { end_of range ≤ end_of_user_pages }
     requires can { CanAdd pid range space.now.regions (G.contents g.old) (G.store g.old) }
-    ensures { AddsOwn G.Pages pid range g.old g.new }
+    ensures { AddsOwn G.PageStore pid range g.old g.new }
 {
     for i in 0..range.count {
         add_page(g, space, pid, range.first + i, known);
@@ -89,12 +89,12 @@ pub(crate) fn add_pages<G: Pages>(
 
 /// Removes a key if it is owned.
 #[tactic(auto, using(mm_store::proofs::Passed::turns_same))]
-fn remove_if<G: Pages>(g: &mut G, owned: bool, key: Key)
+fn remove_if<G: PageStore>(g: &mut G, owned: bool, key: Key)
     requires can { CanGo key owned (G.store g.old) }
     ensures gone { Gone (λ k. owned && same_key k key) (if owned then 1 else 0) (G.contents g.old)
         (G.contents g.new) (G.store g.old) (G.store g.new) }
     ensures passes { (held : Leaving) (from to : ℕ) → IsAmong (G.contents g.old) held from to key →
-        PassesAs G.Pages (Ends held from to) g.old g.new }
+        PassesAs G.PageStore (Ends held from to) g.old g.new }
     ensures loans { G.loans g.new ≡ G.loans g.old }
 {
     if owned {
@@ -104,7 +104,7 @@ fn remove_if<G: Pages>(g: &mut G, owned: bool, key: Key)
 
 /// Removes the keys of an area's committed pages, in rising order.
 #[tactic(auto, using(mm_store::proofs::Passed::turns_same))]
-fn remove_shared<G: Pages>(g: &mut G, pages: &SectionPages, area: Area)
+fn remove_shared<G: PageStore>(g: &mut G, pages: &SectionPages, area: Area)
     requires can { CanGoAll (shared_at area) (is_committed_in pages.now) (length pages.now.pages)
         (G.store g.old) }
     requires live { (i : ℕ) → is_some (G.contents g.old (shared_at area i)) ≡
@@ -113,7 +113,7 @@ fn remove_shared<G: Pages>(g: &mut G, pages: &SectionPages, area: Area)
         (length pages.now.pages)) (owned_among (is_committed_in pages.now) (length pages.now.pages))
         (G.contents g.old) (G.contents g.new) (G.store g.old) (G.store g.new) }
     ensures passes { (held : Leaving) (from to : ℕ) → from ≤ held.rank area.0 →
-        held.rank area.0 < to → PassesAs G.Pages (Ends held from to) g.old g.new }
+        held.rank area.0 < to → PassesAs G.PageStore (Ends held from to) g.old g.new }
     ensures loans { G.loans g.new ≡ G.loans g.old }
 {
     let count = pages.len();
@@ -125,7 +125,7 @@ fn remove_shared<G: Pages>(g: &mut G, pages: &SectionPages, area: Area)
 /// Gives up one page of a process: its key, where it has bytes of its own, of which this is known,
 /// and then its place, if places go.
 #[tactic(auto, using(mm_store::proofs::Passed::turns_same))]
-fn release_page<G: Pages>(
+fn release_page<G: PageStore>(
     g: &mut G,
     space: &AddressSpace,
     pid: Pid,
@@ -141,7 +141,7 @@ fn release_page<G: Pages>(
         (G.contents g.new) (G.store g.old) (G.store g.new) }
     ensures passes { (held : Leaving) (from to : ℕ) → held.places (place_at pid page) ≡ true →
         from ≤ page_rank page → page_rank (page + 1) ≤ to →
-        PassesAs G.Pages (Ends held from to) g.old g.new }
+        PassesAs G.PageStore (Ends held from to) g.old g.new }
     ensures loans { G.loans g.new ≡ G.loans g.old }
 {
     remove_if(
@@ -156,7 +156,7 @@ fn release_page<G: Pages>(
 
 /// Gives up pages of a process one by one in rising order, each with its key before the next; of
 /// each this is known.
-fn release_each<G: Pages>(
+fn release_each<G: PageStore>(
     g: &mut G,
     space: &AddressSpace,
     pid: Pid,
@@ -167,7 +167,7 @@ fn release_each<G: Pages>(
     requires known { KnownIn known space.now.regions range }
     requires end { end_of range ≤ end_of_user_pages }
     requires can { CanRelease goes pid range space.now.regions (G.contents g.old) (G.store g.old) }
-    ensures { GivesUpOwn G.Pages space.now.regions goes pid range g.old g.new }
+    ensures { GivesUpOwn G.PageStore space.now.regions goes pid range g.old g.new }
 {
     for i in 0..range.count {
         release_page(g, space, pid, range.first + i, known, goes);
@@ -176,10 +176,16 @@ fn release_each<G: Pages>(
 
 /// Gives up pages of a process of which none has bytes of its own, all at once.
 #[tactic(auto, using(mm_store::proofs::Passed::turns_same))]
-fn release_empty<G: Pages>(g: &mut G, space: &AddressSpace, pid: Pid, range: PageRange, goes: bool)
+fn release_empty<G: PageStore>(
+    g: &mut G,
+    space: &AddressSpace,
+    pid: Pid,
+    range: PageRange,
+    goes: bool,
+)
     requires can { CanRelease goes pid range space.now.regions (G.contents g.old) (G.store g.old) }
     requires none { owned_among (is_owned_at space.now.regions range.first) range.count ≡ 0 }
-    ensures { GivesUpOwn G.Pages space.now.regions goes pid range g.old g.new }
+    ensures { GivesUpOwn G.PageStore space.now.regions goes pid range g.old g.new }
 {
     if goes {
         g.unbind(pid, Vpn(range.first), range.count);
@@ -188,7 +194,7 @@ fn release_empty<G: Pages>(g: &mut G, space: &AddressSpace, pid: Pid, range: Pag
 
 /// Gives up pages of one region of a process in rising order, each key before its place; `owned` of
 /// them have bytes of their own. Pages without are passed over by runs, found by halving.
-fn release_some<G: Pages>(
+fn release_some<G: PageStore>(
     g: &mut G,
     space: &AddressSpace,
     pid: Pid,
@@ -200,7 +206,7 @@ fn release_some<G: Pages>(
     requires around { is_some (region_around space.now.regions range) ≡ true }
     requires owned { owned ≡ owned_in space.now.regions range }
     requires can { CanRelease goes pid range space.now.regions (G.contents g.old) (G.store g.old) }
-    ensures { GivesUpOwn G.Pages space.now.regions goes pid range g.old g.new }
+    ensures { GivesUpOwn G.PageStore space.now.regions goes pid range g.old g.new }
 {
     space.sound();
     if owned == 0 {
@@ -220,7 +226,7 @@ fn release_some<G: Pages>(
 
 /// Gives up pages of one region of a process in rising order, each with its key before the next,
 /// and their places, or these stay bound. Tells how many had bytes of their own.
-pub(crate) fn release_pages<G: Pages>(
+pub(crate) fn release_pages<G: PageStore>(
     g: &mut G,
     space: &AddressSpace,
     pid: Pid,
@@ -231,7 +237,7 @@ pub(crate) fn release_pages<G: Pages>(
     requires around { is_some (region_around space.now.regions range) ≡ true }
     requires can { CanRelease goes pid range space.now.regions (G.contents g.old) (G.store g.old) }
     ensures owned { result ≡ owned_in space.now.regions range }
-    ensures gives_up { GivesUp G.Pages goes pid range g.old g.new }
+    ensures gives_up { GivesUp G.PageStore goes pid range g.old g.new }
 {
     let owned = space.owned(range);
     release_some(g, space, pid, range, owned, goes);
@@ -239,7 +245,7 @@ pub(crate) fn release_pages<G: Pages>(
 }
 
 /// Closes the area of a page-file section that has ended.
-fn empty_area<G: Pages>(g: &mut G, pages: &mut SectionPages, commit: &mut Commit, area: Area)
+fn empty_area<G: PageStore>(g: &mut G, pages: &mut SectionPages, commit: &mut Commit, area: Area)
     requires can { CanEnd area pages.old (G.contents g.old) (G.store g.old) }
     requires charged { count_by is_some pages.old.pages ≤ commit.old.charge }
     ensures ended { pages.new ≡ no_area }
@@ -249,7 +255,7 @@ fn empty_area<G: Pages>(g: &mut G, pages: &mut SectionPages, commit: &mut Commit
     ensures emptied { Emptied area pages.old (G.contents g.old) (G.contents g.new) (G.store g.old)
         (G.store g.new) }
     ensures passes { (held : Leaving) (from to : ℕ) → from ≤ held.rank area.0 →
-        held.rank area.0 < to → PassesAs G.Pages (Ends held from to) g.old g.new }
+        held.rank area.0 < to → PassesAs G.PageStore (Ends held from to) g.old g.new }
     ensures loans { G.loans g.new ≡ G.loans g.old }
 {
     let freed = pages.committed();
@@ -261,7 +267,7 @@ fn empty_area<G: Pages>(g: &mut G, pages: &mut SectionPages, commit: &mut Commit
 
 /// The section of an area has ended: with a page-file section end its pages, a file's stay.
 #[tactic(auto, using(mm_store::proofs::Passed::turns_same))]
-pub(crate) fn end_area<G: Pages>(
+pub(crate) fn end_area<G: PageStore>(
     g: &mut G,
     pages: &mut SectionPages,
     commit: &mut Commit,
@@ -278,7 +284,7 @@ pub(crate) fn end_area<G: Pages>(
         (G.store g.new) }
     ensures passes { (held : Leaving) (from to : ℕ)
         → (pages.old.file_block ≡ None → (from ≤ held.rank area.0) × (held.rank area.0 < to)) →
-        PassesAs G.Pages (Ends held from to) g.old g.new }
+        PassesAs G.PageStore (Ends held from to) g.old g.new }
     ensures loans { G.loans g.new ≡ G.loans g.old }
 {
     if pages.first_block().is_none() {

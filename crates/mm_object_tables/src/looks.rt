@@ -12,8 +12,8 @@ ghost use Rattle.mm_object_tables.specs.Shown.{shown_process};
 
 use crate::Tables;
 use crate::tables::Process;
-use mm_sections::{Handles, SectionPages};
 use mm_address_spaces::{AddressSpace, PageRow};
+use mm_sections::{Handles, SectionPages};
 use mm_types::{Area, Key, Kind, Name, Pid, Prot, SectionId, View, Vpn};
 
 /// What an access asks of a committed page.

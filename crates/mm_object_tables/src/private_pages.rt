@@ -11,9 +11,9 @@ ghost use Rattle.mm_types.specs.declared.moves.LineKind.TheVariants as line_kind
 
 use crate::tables::space_of;
 use crate::{Tables, keys};
-use mm_commit_charge::Commit;
-use mm_store::Pages;
 use mm_address_spaces::{AddressSpace, NewRegion, PageRange};
+use mm_commit_charge::Commit;
+use mm_store::PageStore;
 use mm_types::{NoMemory, Pid, Vpn};
 use std::alloc::Global;
 
@@ -41,7 +41,7 @@ pub(crate) fn take(commit: &mut Commit, n: u32)
 /// What a new region takes of an address space and of the store: room for it and for all keys, and
 /// its places. After `NoMemory` there may be more room.
 #[tactic(auto, using(mm_store::proofs::Passed::turns_same))]
-pub(crate) fn grow_for_region<G: Pages>(
+pub(crate) fn grow_for_region<G: PageStore>(
     space: &mut AddressSpace,
     g: &mut G,
     pid: Pid,
@@ -49,12 +49,12 @@ pub(crate) fn grow_for_region<G: Pages>(
     total: u32,
 ) -> Result<(), NoMemory>
     requires user { are_user_pages range ≡ true }
-    requires bind { CanBind G.Pages pid range total g.old }
+    requires bind { CanBind G.PageStore pid range total g.old }
     ensures regions { space.new.regions ≡ space.old.regions }
     ensures spare { OnOk result (1 ≤ space.new.spare) }
-    ensures binds { OnOk result (BindsPlaces G.Pages pid range total g.old g.new) }
+    ensures binds { OnOk result (BindsPlaces G.PageStore pid range total g.old g.new) }
     ensures err { OnErr result (MoreRoom (G.store g.old) (G.store g.new)) }
-    ensures idles { IdlesOver G.Pages g.old g.new }
+    ensures idles { IdlesOver G.PageStore g.old g.new }
 {
     space.reserve()?;
     g.reserve(total)?;
@@ -63,7 +63,7 @@ pub(crate) fn grow_for_region<G: Pages>(
 
 /// Adds the keys of a new region's pages, where its pages are committed.
 #[tactic(auto, using(mm_store::proofs::Passed::turns_same))]
-fn fill_region<G: Pages>(space: &AddressSpace, g: &mut G, pid: Pid, range: PageRange, kind: u32)
+fn fill_region<G: PageStore>(space: &AddressSpace, g: &mut G, pid: Pid, range: PageRange, kind: u32)
     requires end { end_of range ≤ end_of_user_pages }
     requires can { (kind == reserve_type) ≡ false →
         CanAdd pid range space.now.regions (G.contents g.old) (G.store g.old) }
@@ -75,7 +75,7 @@ fn fill_region<G: Pages>(space: &AddressSpace, g: &mut G, pid: Pid, range: PageR
         range }
     ensures room { (G.store g.new).room ≡ (G.store g.old).room }
     ensures passes { (from to : ℕ) → ((kind == reserve_type) ≡ false → StandsFrom from to range) →
-        PassesAs G.Pages (MakesFrom from to) g.old g.new }
+        PassesAs G.PageStore (MakesFrom from to) g.old g.new }
     ensures loans { G.loans g.new ≡ G.loans g.old }
 {
     if kind != RESERVE_TYPE {
@@ -86,7 +86,7 @@ fn fill_region<G: Pages>(space: &AddressSpace, g: &mut G, pid: Pid, range: PageR
 /// Makes a private region of free pages, and adds its keys where it is committed. `total` is what
 /// all keys then come to at most. After `NoMemory` there may be more room.
 #[tactic(auto, using(mm_store::proofs::Passed::turns_same, mm_store::proofs::Passed::idle_before))]
-fn make_region<G: Pages>(
+fn make_region<G: PageStore>(
     alloc: Global,
     space: &mut AddressSpace,
     g: &mut G,
@@ -103,9 +103,9 @@ fn make_region<G: Pages>(
         (G.store g.old) }
     ensures changed { OnOk result (space.new.regions ≡
         add_region (private_region blank watched kind prot range) space.old.regions) }
-    ensures adds { OnOk result (AddsKeys G.Pages pid range (keys_of kind) Makes true
+    ensures adds { OnOk result (AddsKeys G.PageStore pid range (keys_of kind) Makes true
         (new_pages kind range) total g.old g.new) }
-    ensures makes { MakesWithin G.Pages (λ from to.
+    ensures makes { MakesWithin G.PageStore (λ from to.
         (kind == reserve_type) ≡ false → StandsFrom from to range) result g.old g.new }
     ensures kept { OnErr result (space.new.regions ≡ space.old.regions) }
     ensures err { OnErr result (Roomier (G.contents g.old) (G.contents g.new) (G.store g.old)
@@ -126,7 +126,7 @@ impl Tables {
     /// Commits a range of one private region of a process; `n` of its pages are not committed, and
     /// the limit allows them. After `NoMemory`, which does not come where the store has room for
     /// them, tables and bytes are as before.
-    pub fn commit<G: Pages>(
+    pub fn commit<G: PageStore>(
         &mut self,
         g: &mut G,
         pid: Pid,
@@ -134,7 +134,7 @@ impl Tables {
         prot: u32,
         n: u32,
     ) -> Result<(), NoMemory>
-        requires ready { IsReadyFor G.Pages line_kind.Call pid self.old g.old }
+        requires ready { IsReadyFor G.PageStore line_kind.Call pid self.old g.old }
         requires can { CommitsPages pid range prot n self.old }
         requires room { charge self.old + n ≤ limit self.old }
         ensures ok { OnOk result ((p : ProcessOf (Unit {0})) (r : Found (RegionOf (Unit {0}))) →
@@ -142,9 +142,9 @@ impl Tables {
             self.new ≡ set_region self.old pid.0 p r.place
             (change_rows (commit tt prot) range r.thing)) }
         ensures enough { charge self.old + n ≤ (G.store g.old).room → IsOk result }
-        ensures makes { MakesWithin G.Pages (λ from to. StandsFrom from to range) result g.old
+        ensures makes { MakesWithin G.PageStore (λ from to. StandsFrom from to range) result g.old
             g.new }
-        ensures settles { SettlesTables G.Pages result self.old self.new g.old g.new }
+        ensures settles { SettlesTables G.PageStore result self.old self.new g.old g.new }
         ensures among { StandsFrom 0 (2 ^ 32) range }
     {
         let total = self.commit.now() + n;
@@ -158,7 +158,7 @@ impl Tables {
 
     /// Makes a private region of free pages, committed where the type says so, watched or not; the
     /// limit allows them. After `NoMemory` tables and bytes are as before.
-    pub fn reserve<G: Pages>(
+    pub fn reserve<G: PageStore>(
         &mut self,
         alloc: Global,
         g: &mut G,
@@ -168,7 +168,7 @@ impl Tables {
         kind: u32,
         prot: u32,
     ) -> Result<(), NoMemory>
-        requires ready { IsReadyFor G.Pages line_kind.Call pid self.old g.old }
+        requires ready { IsReadyFor G.PageStore line_kind.Call pid self.old g.old }
         requires new { (p : ProcessOf (Unit {0})) → process_of self.old pid.0 ≡ Some p →
             IsNewRange p.regions range }
         requires prot { is_protection_among private_protections prot ≡ true }
@@ -176,9 +176,9 @@ impl Tables {
         ensures ok { OnOk result ((p : ProcessOf (Unit {0})) → process_of self.old pid.0 ≡ Some p →
             self.new ≡ set_regions self.old pid.0 p
             (add_region (private_region blank watched kind prot range) p.regions)) }
-        ensures makes { MakesWithin G.Pages (λ from to.
+        ensures makes { MakesWithin G.PageStore (λ from to.
             (kind == reserve_type) ≡ false → StandsFrom from to range) result g.old g.new }
-        ensures settles { SettlesTables G.Pages result self.old self.new g.old g.new }
+        ensures settles { SettlesTables G.PageStore result self.old self.new g.old g.new }
         ensures among { StandsFrom 0 (2 ^ 32) range }
     {
         let pages = new_pages(kind, range);
@@ -190,8 +190,8 @@ impl Tables {
     }
 
     /// Decommits a range of one private region of a process.
-    pub fn decommit<G: Pages>(&mut self, g: &mut G, pid: Pid, range: PageRange)
-        requires ready { IsReadyFor G.Pages (line_kind.Unbind pid) pid self.old g.old }
+    pub fn decommit<G: PageStore>(&mut self, g: &mut G, pid: Pid, range: PageRange)
+        requires ready { IsReadyFor G.PageStore (line_kind.Unbind pid) pid self.old g.old }
         requires inside { (p : ProcessOf (Unit {0})) → process_of self.old pid.0 ≡ Some p →
             is_some (region_around p.regions range) ≡ true }
         requires private { (p : ProcessOf (Unit {0})) (r : Found (RegionOf (Unit {0}))) →
@@ -201,7 +201,7 @@ impl Tables {
             process_of self.old pid.0 ≡ Some p → region_around p.regions range ≡ Some r →
             self.new ≡ set_region self.old pid.0 p r.place
             (change_rows (λ row. reserved_row) range r.thing) }
-        ensures frees { Frees G.Pages pid range self.old self.new g.old g.new }
+        ensures frees { Frees G.PageStore pid range self.old self.new g.old g.new }
     {
         let space = space_of(&mut self.processes[pid.0 as usize - 1]);
         let owned = keys::release_pages(g, space, pid, range, false);
@@ -211,21 +211,21 @@ impl Tables {
 
     /// `release`, before the stack is looked at that may have had the region. Keys that live on
     /// keep their bytes.
-    pub(crate) fn release_region<G: Pages>(
+    pub(crate) fn release_region<G: PageStore>(
         &mut self,
         g: &mut G,
         pid: Pid,
         addr: u32,
         range: PageRange,
     )
-        requires ready { IsReadyFor G.Pages (line_kind.Unbind pid) pid self.old g.old }
+        requires ready { IsReadyFor G.PageStore (line_kind.Unbind pid) pid self.old g.old }
         requires there { (p : ProcessOf (Unit {0})) → process_of self.old pid.0 ≡ Some p →
             option_map (λ r. pages_of r.thing) (private_at p.regions addr) ≡ Some range }
         ensures changed { (p : ProcessOf (Unit {0})) (r : Found (RegionOf (Unit {0}))) →
             process_of self.old pid.0 ≡ Some p → private_at p.regions addr ≡ Some r →
             self.new ≡ set_regions self.old pid.0 p (remove p.regions r.place) }
         ensures less { Less (G.contents g.old) (G.contents g.new) }
-        ensures frees { Frees G.Pages pid range self.old self.new g.old g.new }
+        ensures frees { Frees G.PageStore pid range self.old self.new g.old g.new }
     {
         let space = space_of(&mut self.processes[pid.0 as usize - 1]);
         let freed = keys::release_pages(g, space, pid, range, true);
@@ -235,15 +235,15 @@ impl Tables {
 
     /// Releases the private region of a process that begins at the address and has these pages.
     /// Where it was a thread's stack, the thread has none any more.
-    pub fn release<G: Pages>(&mut self, g: &mut G, pid: Pid, addr: u32, range: PageRange)
-        requires ready { IsReadyFor G.Pages (line_kind.Unbind pid) pid self.old g.old }
+    pub fn release<G: PageStore>(&mut self, g: &mut G, pid: Pid, addr: u32, range: PageRange)
+        requires ready { IsReadyFor G.PageStore (line_kind.Unbind pid) pid self.old g.old }
         requires there { (p : ProcessOf (Unit {0})) → process_of self.old pid.0 ≡ Some p →
             option_map (λ r. pages_of r.thing) (private_at p.regions addr) ≡ Some range }
         ensures changed { (p : ProcessOf (Unit {0})) (r : Found (RegionOf (Unit {0}))) →
             process_of self.old pid.0 ≡ Some p → private_at p.regions addr ≡ Some r →
             self.new ≡ end_stacks (set_regions self.old pid.0 p (remove p.regions r.place))
             (is_stack_at pid.0 addr) }
-        ensures frees { Frees G.Pages pid range self.old self.new g.old g.new }
+        ensures frees { Frees G.PageStore pid range self.old self.new g.old g.new }
     {
         self.release_region(g, pid, addr, range);
         self.end_stack_at(pid, addr);

@@ -11,22 +11,22 @@ ghost use Rattle.mm_types.specs.declared.moves.LineKind.TheVariants as line_kind
 use crate::Tables;
 use crate::private_pages::take;
 use crate::tables::{Process, space_of};
-use mm_store::Pages;
-use mm_sections::Handles;
 use mm_address_spaces::{AddressSpace, PageRange};
+use mm_sections::Handles;
+use mm_store::PageStore;
 use mm_types::{Machine, NoMemory, Pid};
 use std::alloc::Global;
 
 /// Sees that there is room for `total` keys, as there was where `n` is 0. After `NoMemory`, which
 /// comes only where it is not, there may be more room.
 #[tactic(auto, using(mm_store::proofs::Passed::turns_same))]
-fn grow_for_marks<G: Pages>(g: &mut G, n: u32, total: u32) -> Result<(), NoMemory>
+fn grow_for_marks<G: PageStore>(g: &mut G, n: u32, total: u32) -> Result<(), NoMemory>
     requires within { total ≤ limit_of (G.store g.old).machine }
     requires enough { n ≡ 0 → total ≤ (G.store g.old).room }
     ensures room { OnOk result (total ≤ (G.store g.new).room) }
     ensures some { n ≡ 0 → IsOk result }
     ensures more { Roomier (G.contents g.old) (G.contents g.new) (G.store g.old) (G.store g.new) }
-    ensures idles { StaysIdle G.Pages g.old g.new }
+    ensures idles { StaysIdle G.PageStore g.old g.new }
 {
     if n > 0 {
         g.reserve(total)?;
@@ -49,7 +49,7 @@ fn push_empty(processes: &mut Vec<Option<Process>>, allocator: Global)
 /// Makes a process without regions in the store, at the end of those that there are. After
 /// `NoMemory` nothing has changed.
 #[tactic(auto, using(mm_store::proofs::Passed::turns_same))]
-fn push_process<G: Pages>(
+fn push_process<G: PageStore>(
     processes: &mut Vec<Option<Process>>,
     allocator: Global,
     g: &mut G,
@@ -66,7 +66,7 @@ fn push_process<G: Pages>(
       is_open = changed ◌==◌ (G.store g.old).is_open pid.0 true;
     }) }
     ensures kept { OnErr result (G.store g.new ≡ G.store g.old) }
-    ensures idles { IdlesOver G.Pages g.old g.new }
+    ensures idles { IdlesOver G.PageStore g.old g.new }
 {
     processes.reserve(1)?;
     g.open_process(pid, min, max)?;
@@ -93,7 +93,7 @@ impl Tables {
 
     /// Makes the next process, without regions, in tables and store. After `NoMemory` nothing has
     /// changed.
-    pub fn add_process<G: Pages>(
+    pub fn add_process<G: PageStore>(
         &mut self,
         allocator: Global,
         g: &mut G,
@@ -103,7 +103,7 @@ impl Tables {
     ) -> Result<(), NoMemory>
         requires few { length self.old.processes ≤ most_processes }
         requires next { pid.0 ≡ length self.old.processes }
-        requires starts { StartsProcess G.Pages pid min max self.old g.old }
+        requires starts { StartsProcess G.PageStore pid min max self.old g.old }
         ensures ok { OnOk result (self.new ≡ record self.old {
           processes = self.old.processes ++ Some no_regions ∷ [];
         }) }
@@ -112,7 +112,7 @@ impl Tables {
         }) }
         ensures fits { OnOk result (FitsTables self.new (G.contents g.new) (G.store g.new)) }
         ensures kept { OnErr result ((self.new ≡ self.old) × (G.store g.new ≡ G.store g.old)) }
-        ensures idles { IdlesOver G.Pages g.old g.new }
+        ensures idles { IdlesOver G.PageStore g.old g.new }
     {
         push_process(&mut self.processes, allocator, g, pid, min, max)?;
         Ok(())
@@ -182,7 +182,7 @@ impl Tables {
     /// Gives a range of committed pages of one region of a process another protection, which they
     /// accept; in a view WRITECOPY marks `n` of them, and the limit allows these. `NoMemory` comes
     /// only where pages are marked; then tables and bytes are as before.
-    pub fn protect<G: Pages>(
+    pub fn protect<G: PageStore>(
         &mut self,
         g: &mut G,
         pid: Pid,
@@ -190,16 +190,16 @@ impl Tables {
         prot: u32,
         n: u32,
     ) -> Result<(), NoMemory>
-        requires ready { IsReadyFor G.Pages line_kind.Call pid self.old g.old }
+        requires ready { IsReadyFor G.PageStore line_kind.Call pid self.old g.old }
         requires can { CanProtectAll pid range prot n self.old }
         requires room { charge self.old + n ≤ limit self.old }
         ensures ok { OnOk result ((p : ProcessOf (Unit {0})) (r : Found (RegionOf (Unit {0}))) →
             process_of self.old pid.0 ≡ Some p → region_around p.regions range ≡ Some r →
             self.new ≡ set_region self.old pid.0 p r.place
             (change_rows (protected r.thing.kind prot) range r.thing)) }
-        ensures settles { SettlesTables G.Pages result self.old self.new g.old g.new }
+        ensures settles { SettlesTables G.PageStore result self.old self.new g.old g.new }
         ensures some { n ≡ 0 → IsOk result }
-        ensures idles { StaysIdle G.Pages g.old g.new }
+        ensures idles { StaysIdle G.PageStore g.old g.new }
     {
         let total = self.commit.now() + n;
         grow_for_marks(g, n, total)?;

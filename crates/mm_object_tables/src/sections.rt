@@ -12,8 +12,8 @@ ghost use Rattle.mm_types.specs.declared.moves.LineKind.TheVariants as line_kind
 use crate::Tables;
 use crate::private_pages::take;
 use crate::tables::handles_of;
-use mm_store::Pages;
 use mm_sections::{Directory, Handles, SectionPages};
+use mm_store::PageStore;
 use mm_types::{Area, Block, Key, MakeFault, Name, NoMemory, Pid, Prot, SectionId};
 use std::alloc::Global;
 
@@ -82,11 +82,11 @@ fn grow_for_paging(
 
 /// Adds the keys of the first `n` pages of an open area.
 #[tactic(auto, using(mm_store::proofs::Passed::turns_same))]
-fn fill_area<G: Pages>(g: &mut G, area: Area, n: u32)
+fn fill_area<G: PageStore>(g: &mut G, area: Area, n: u32)
     requires can { CanFill area n (G.contents g.old) (G.store g.old) }
     ensures fills { Come (is_page_of area n) n (G.contents g.old) (G.contents g.new)
         (G.store g.old) (G.store g.new) }
-    ensures passes { PassesAs G.Pages Makes g.old g.new }
+    ensures passes { PassesAs G.PageStore Makes g.old g.new }
     ensures loans { G.loans g.new ≡ G.loans g.old }
 {
     for i in 0..n {
@@ -97,7 +97,7 @@ fn fill_area<G: Pages>(g: &mut G, area: Area, n: u32)
 /// Opens an area of the store, and adds the keys of its first `n` pages. `total` is what all keys
 /// then come to at most. After `NoMemory` there may be more room.
 #[tactic(auto, using(mm_store::proofs::Passed::turns_same, mm_store::proofs::Passed::idle_before))]
-fn open_paging_area<G: Pages>(
+fn open_paging_area<G: PageStore>(
     g: &mut G,
     area: Area,
     pages: u32,
@@ -113,7 +113,7 @@ fn open_paging_area<G: Pages>(
     ensures room { OnOk result (total ≤ (G.store g.new).room) }
     ensures err { OnErr result
         (Roomier (G.contents g.old) (G.contents g.new) (G.store g.old) (G.store g.new)) }
-    ensures makes { MakesPages G.Pages result g.old g.new }
+    ensures makes { MakesPages G.PageStore result g.old g.new }
 {
     g.reserve(total)?;
     g.open_area(area, pages)?;
@@ -177,7 +177,7 @@ impl Tables {
     /// answered. No section has the name, if one is given; where its pages are committed the limit
     /// allows them. After `NoMemory` tables and bytes are as before.
     #[tactic(auto, using(mm_store::proofs::Passed::turns_same))]
-    pub fn add_paging_section<G: Pages>(
+    pub fn add_paging_section<G: PageStore>(
         &mut self,
         alloc: Global,
         g: &mut G,
@@ -187,7 +187,7 @@ impl Tables {
         prot: Prot,
         name: Option<Name>,
     ) -> Result<u32, NoMemory>
-        requires ready { IsReadyFor G.Pages line_kind.Call pid self.old g.old }
+        requires ready { IsReadyFor G.PageStore line_kind.Call pid self.old g.old }
         requires few { IsFew self.old }
         requires some { 1 ≤ pages }
         requires unnamed { IfSome name (λ n. section_named self.old n ≡ None) }
@@ -199,8 +199,8 @@ impl Tables {
                   record { file_block = None; pages = replicate pages (page_if committed) } ∷ [];
             }) pid.0 p (record { prot = prot.0; name = name; area = length self.old.areas })
             ≡ record { answer = answer.Created handle false; world = self.new }) }
-        ensures settles { SettlesTables G.Pages result self.old self.new g.old g.new }
-        ensures makes { MakesPages G.Pages result g.old g.new }
+        ensures settles { SettlesTables G.PageStore result self.old self.new g.old g.new }
+        ensures makes { MakesPages G.PageStore result g.old g.new }
     {
         let area = Area(self.areas.len() as u32);
         let n = pages_if(pages, committed);
@@ -271,7 +271,7 @@ impl Tables {
     /// Makes a file of `pages` pages in the lowest blocks that no file uses; no file has the name.
     /// Page i holds the byte `byte + i` throughout. `Write` where a write of a block failed: then
     /// there is no file. After an error the tables are as before.
-    pub fn add_file<G: Pages>(
+    pub fn add_file<G: PageStore>(
         &mut self,
         alloc: Global,
         g: &mut G,
@@ -283,10 +283,10 @@ impl Tables {
         requires kind { (G.store g.old).kind ≡ line_kind.Call }
         requires few { IsFew self.old }
         requires new { IsNewFile name pages self.old }
-        ensures files { MakesFile G.Pages name pages byte result self.old self.new g.old g.new }
-        ensures stored { StoresFile G.Pages result self.new g.old g.new }
-        ensures fails { BlamesDevice G.Pages result g.old g.new }
-        ensures notes { NotesFile G.Pages self.old.blocks_used pages result g.old g.new }
+        ensures files { MakesFile G.PageStore name pages byte result self.old self.new g.old g.new }
+        ensures stored { StoresFile G.PageStore result self.new g.old g.new }
+        ensures fails { BlamesDevice G.PageStore result g.old g.new }
+        ensures notes { NotesFile G.PageStore self.old.blocks_used pages result g.old g.new }
     {
         let area = Area(self.areas.len() as u32);
         let first = Block(self.blocks_used);

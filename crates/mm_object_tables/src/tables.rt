@@ -8,9 +8,9 @@ ghost use Rattle.mm_object_tables.specs.Spaces.{LendsSpace, LendsHandles, proces
 use crate::kept_accesses::no_accesses;
 use crate::thread_stacks::Stacks;
 use crate::waiting::Kept;
+use mm_address_spaces::AddressSpace;
 use mm_commit_charge::Commit;
 use mm_sections::{Directory, Handles, SectionPages};
-use mm_address_spaces::AddressSpace;
 use mm_types::{Machine, THREADS};
 use std::alloc::Global;
 use std::marker::Model;

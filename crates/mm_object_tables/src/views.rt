@@ -12,9 +12,9 @@ ghost use Rattle.mm_object_tables.specs.{SettlesTables, SharesPages, region_of_v
 use crate::Tables;
 use crate::private_pages::{grow_for_region, take};
 use crate::tables::space_of;
-use mm_store::Pages;
-use mm_sections::SectionPages;
 use mm_address_spaces::{AddressSpace, NewRegion, PageRange};
+use mm_sections::SectionPages;
+use mm_store::PageStore;
 use mm_types::{Area, Key, Kind, NoMemory, Pid, View, ViewAccess};
 use std::alloc::Global;
 
@@ -33,7 +33,7 @@ fn marked_pages(view: View, range: PageRange) -> u32
 /// Makes a view of free pages in an address space. `total` is what all keys come to at most. After
 /// `NoMemory` there may be more room, and nothing else is other.
 #[tactic(auto, using(mm_store::proofs::Passed::turns_same))]
-fn make_view<G: Pages>(
+fn make_view<G: PageStore>(
     alloc: Global,
     space: &mut AddressSpace,
     g: &mut G,
@@ -43,11 +43,11 @@ fn make_view<G: Pages>(
     total: u32,
 ) -> Result<(), NoMemory>
     requires new { IsNewPlace space.old.regions range }
-    requires bind { CanBind G.Pages pid range total g.old }
+    requires bind { CanBind G.PageStore pid range total g.old }
     ensures regions { OnOk result (space.new.regions ≡
         add_region (region_of_view view range) space.old.regions) }
-    ensures binds { OnOk result (BindsPlaces G.Pages pid range total g.old g.new) }
-    ensures idles { IdlesOver G.Pages g.old g.new }
+    ensures binds { OnOk result (BindsPlaces G.PageStore pid range total g.old g.new) }
+    ensures idles { IdlesOver G.PageStore g.old g.new }
     ensures kept { OnErr result (space.new.regions ≡ space.old.regions) }
     ensures err { OnErr result (MoreRoom (G.store g.old) (G.store g.new)) }
 {
@@ -88,13 +88,13 @@ fn view_of(space: &AddressSpace, range: PageRange) -> (View, u32)
 
 /// Adds the key of a section's page if it is not committed.
 #[tactic(auto, using(mm_store::proofs::Passed::turns_same))]
-fn share_page<G: Pages>(g: &mut G, pages: &SectionPages, area: Area, index: u32)
+fn share_page<G: PageStore>(g: &mut G, pages: &SectionPages, area: Area, index: u32)
     requires inside { index < length pages.now.pages }
     requires can { CanShare area index 1 pages.now (G.contents g.old) (G.store g.old) }
     ensures shares { Shares area index 1 pages.now (G.contents g.old) (G.contents g.new)
         (G.store g.old) (G.store g.new) }
     ensures passes { (from to : ℕ) → from ≤ index → index < to →
-        PassesAs G.Pages (MakesFrom from to) g.old g.new }
+        PassesAs G.PageStore (MakesFrom from to) g.old g.new }
     ensures loans { G.loans g.new ≡ G.loans g.old }
 {
     if !pages.is_committed(index) {
@@ -104,10 +104,10 @@ fn share_page<G: Pages>(g: &mut G, pages: &SectionPages, area: Area, index: u32)
 
 /// Adds the keys of those of a section's pages that are not committed, in rising order.
 #[tactic(auto, using(mm_store::proofs::Passed::turns_same))]
-fn share_range<G: Pages>(g: &mut G, pages: &SectionPages, area: Area, first: u32, count: u32)
+fn share_range<G: PageStore>(g: &mut G, pages: &SectionPages, area: Area, first: u32, count: u32)
     requires end { first + count < 2 ^ 32 }
     requires can { CanShare area first count pages.now (G.contents g.old) (G.store g.old) }
-    ensures { SharesPages G.Pages area first count pages.now g.old g.new }
+    ensures { SharesPages G.PageStore area first count pages.now g.old g.new }
 {
     for i in 0..count {
         share_page(g, pages, area, first + i);
@@ -127,12 +127,12 @@ fn index_behind(pages: &SectionPages, first: u32, offset: u32) -> u32
 }
 
 /// Commits pages of a section, from the page that stands `offset` pages after the first of a view.
-fn share_in<G: Pages>(pages: &mut SectionPages, g: &mut G, view: View, offset: u32, count: u32)
+fn share_in<G: PageStore>(pages: &mut SectionPages, g: &mut G, view: View, offset: u32, count: u32)
     requires some { 1 ≤ count }
     requires can { CanShare view.area (view.first + offset) count pages.old (G.contents g.old)
         (G.store g.old) }
     ensures pages { pages.new ≡ commit_shared blank (view.first + offset) count pages.old }
-    ensures shared { SharesPages G.Pages view.area (view.first + offset) count
+    ensures shared { SharesPages G.PageStore view.area (view.first + offset) count
         pages.old g.old g.new }
 {
     let first = index_behind(pages, view.first, offset);
@@ -141,7 +141,7 @@ fn share_in<G: Pages>(pages: &mut SectionPages, g: &mut G, view: View, offset: u
 }
 
 /// Commits pages of the control area of a view.
-fn share_pages<G: Pages>(
+fn share_pages<G: PageStore>(
     areas: &mut Vec<SectionPages>,
     g: &mut G,
     view: View,
@@ -155,7 +155,7 @@ fn share_pages<G: Pages>(
         slice_set areas.old.items view.area.0
         (commit_shared blank (view.first +
         offset) count (listed_area areas.old.items view.area.0)) }
-    ensures shared { SharesPages G.Pages view.area (view.first + offset) count
+    ensures shared { SharesPages G.PageStore view.area (view.first + offset) count
         (listed_area areas.old.items view.area.0) g.old g.new }
 {
     share_in(&mut areas[view.area.0 as usize], g, view, offset, count);
@@ -167,7 +167,7 @@ impl Tables {
     /// and the limit allows them. After `NoMemory`, which does not come where the store has room
     /// for them, tables and bytes are as before.
     #[tactic(auto, using(mm_store::proofs::Passed::idle_before))]
-    pub fn commit_view<G: Pages>(
+    pub fn commit_view<G: PageStore>(
         &mut self,
         g: &mut G,
         pid: Pid,
@@ -175,7 +175,7 @@ impl Tables {
         prot: u32,
         n: u32,
     ) -> Result<(), NoMemory>
-        requires ready { IsReadyFor G.Pages line_kind.Call pid self.old g.old }
+        requires ready { IsReadyFor G.PageStore line_kind.Call pid self.old g.old }
         requires can { CommitsInView pid range prot n self.old }
         requires room { charge self.old + n ≤ limit self.old }
         ensures ok { OnOk result ((p : ProcessOf (Unit {0})) (r : Found (RegionOf (Unit {0})))
@@ -187,8 +187,8 @@ impl Tables {
             (commit_shared blank (v.first + (range.first - r.thing.base)) range.count
             (area_at self.old v.area.0))) }
         ensures enough { charge self.old + n ≤ (G.store g.old).room → IsOk result }
-        ensures settles { SettlesTables G.Pages result self.old self.new g.old g.new }
-        ensures makes { MakesPages G.Pages result g.old g.new }
+        ensures settles { SettlesTables G.PageStore result self.old self.new g.old g.new }
+        ensures makes { MakesPages G.PageStore result g.old g.new }
     {
         let (view, offset) = view_of(self.space(pid), range);
         let total = self.commit.now() + n;
@@ -201,7 +201,7 @@ impl Tables {
 
     /// Makes a view of free pages, which lies within its section; a copy view's pages are charged,
     /// and the limit allows them. After `NoMemory` tables and bytes are as before.
-    pub fn add_view<G: Pages>(
+    pub fn add_view<G: PageStore>(
         &mut self,
         alloc: Global,
         g: &mut G,
@@ -209,7 +209,7 @@ impl Tables {
         range: PageRange,
         view: View,
     ) -> Result<(), NoMemory>
-        requires ready { IsReadyFor G.Pages line_kind.Call pid self.old g.old }
+        requires ready { IsReadyFor G.PageStore line_kind.Call pid self.old g.old }
         requires new { (p : ProcessOf (Unit {0})) → process_of self.old pid.0 ≡ Some p →
             IsNewPlace p.regions range }
         requires section { ViewFits self.old view range.count }
@@ -220,8 +220,8 @@ impl Tables {
             section_of self.old s.place ≡ Some s.thing →
             self.new ≡ set_regions self.old pid.0 p
             (add_region (view_region s view.access view.first range) p.regions)) }
-        ensures settles { SettlesTables G.Pages result self.old self.new g.old g.new }
-        ensures idles { StaysIdle G.Pages g.old g.new }
+        ensures settles { SettlesTables G.PageStore result self.old self.new g.old g.new }
+        ensures idles { StaysIdle G.PageStore g.old g.new }
     {
         let charged = marked_pages(view, range);
         let total = self.commit.now() + charged;

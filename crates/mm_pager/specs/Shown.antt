@@ -6,7 +6,7 @@ use Rattle.mm_world.specs.Report.{Report}
 use Rattle.mm_store.specs.Behind.{Behind}
 use Rattle.mm_store.specs.{StoreOf, Ready, need_for, where_of, block_at, backed_by, no_calls}
 use Rattle.mm_state_calls.specs.{StateOf}
-use Rattle.mm_pager.specs.declared.paged.Wanted.{Wanted}
+use Rattle.mm_pager.specs.declared.pager.Wanted.{Wanted}
 
 -- what the store keeps beside the state
 pub record OwnOf : Type 0 where

@@ -2,21 +2,21 @@ ghost use Rattle.std.specs.Prelude.{false};
 
 use crate::completing::complete_request;
 use crate::copying::copy_page;
-use crate::faults::{fault, fault_to_write, soil};
+use crate::faults::{fault, fault_to_write, set_dirty};
 use crate::flushing::flush_page;
 use crate::making::build_file;
-use crate::paged::{Paged, Wanted};
+use crate::pager::{Pager, Wanted};
 use crate::releasing::{let_all_go, let_own_go};
 use crate::starting::{ready_for, set_wait, start_key};
-use mm_state_calls::Moving;
-use mm_store::{Done, FlushesMoves, Need, Pages, Start};
 use mm_reclaim::{trim, write_out, zero};
+use mm_state_calls::StateCalls;
+use mm_store::{Done, FlushesMoves, Need, PageStore, Start};
 use mm_types::{
     Area, Block, Counts, Device, Direction, Failed, GrowFault, Key, LineKind, MakeFault, NoMemory,
     PageFault, Pid, Place, Tid, Vpn, Wait, WriteFault,
 };
 
-impl<T: Moving> Pages for Paged<T> {
+impl<T: StateCalls> PageStore for Pager<T> {
     ghost use Rattle.mm_pager.specs.Store as paged;
 
     ghost contents = { λ s. paged.contents s };
@@ -102,7 +102,7 @@ impl<T: Moving> Pages for Paged<T> {
     fn write(&mut self, place: Place, key: Key, off: u16, bytes: &[u8]) -> Result<(), PageFault> {
         match self.state.valid(place) {
             Some(f) => {
-                soil(&mut self.state, place, f);
+                set_dirty(&mut self.state, place, f);
                 self.state.write(place, off, bytes);
                 Ok(())
             }
@@ -209,7 +209,7 @@ impl<T: Moving> Pages for Paged<T> {
     }
 }
 
-impl<T: Moving> FlushesMoves for Paged<T> {
+impl<T: StateCalls> FlushesMoves for Pager<T> {
     fn flush_moves(&mut self) -> Result<(), Failed> {
         self.state.flush_moves()
     }

@@ -4,7 +4,7 @@ ghost use Rattle.mm_move_rules.specs.{record_at, is_read, has_request, ending};
 ghost use Rattle.mm_state_calls.specs.{Made, moved_with_call};
 ghost use Rattle.mm_pager.specs.{EndsAs};
 
-use mm_state_calls::Moving;
+use mm_state_calls::StateCalls;
 use mm_store::Done;
 use mm_types::{Frame, Record, Request};
 
@@ -19,7 +19,7 @@ pub(crate) fn is_reading(r: &Record) -> bool
 }
 
 /// The request of a frame ends: its device is called. True where the call succeeded.
-fn end_request<T: Moving>(state: &mut T, f: Frame) -> bool
+fn end_request<T: StateCalls>(state: &mut T, f: Frame) -> bool
     requires io { (T.shown state.old).life.kind ≡ kind.Io }
     requires request { has_request (record_at (T.shown state.old).life.frames f.0).request ≡ true }
     requires low { f.0 < (T.shown state.old).life.machine.frames }
@@ -37,7 +37,7 @@ fn end_request<T: Moving>(state: &mut T, f: Frame) -> bool
 }
 
 /// The i-th oldest request, counted from 1, ends, if there are so many.
-pub(crate) fn complete_request<T: Moving>(state: &mut T, i: u32) -> Done
+pub(crate) fn complete_request<T: StateCalls>(state: &mut T, i: u32) -> Done
     requires some { 1 ≤ i }
     requires io { (T.shown state.old).life.kind ≡ kind.Io }
     requires own { (T.shown state.old).own ≡ None }

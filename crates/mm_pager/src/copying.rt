@@ -7,11 +7,11 @@ ghost use Rattle.mm_pager.specs.{Went, InQuietFrame, FailsToBring, FindsNone, Re
 ghost use Rattle.mm_pager.specs.{CopyGiven, CopyPut, CopiesPage, FailsToCopyPage};
 
 use crate::faults::{fault, find, ready_frame};
-use mm_state_calls::Moving;
+use mm_state_calls::StateCalls;
 use mm_types::{Frame, Key, PageFault, Place};
 
 /// The page to be copied is valid at the place, in this frame: a fault brings it where it is not.
-fn hold_shared<T: Moving>(state: &mut T, place: Place, from: Key) -> Result<Frame, PageFault>
+fn hold_shared<T: StateCalls>(state: &mut T, place: Place, from: Key) -> Result<Frame, PageFault>
     requires access { (T.shown state.old).life.valid place ≡ None
         → (T.shown state.old).life.kind ≡ kind.Access place.pid }
     requires may { MayHold from place (T.shown state.old) }
@@ -30,7 +30,7 @@ fn hold_shared<T: Moving>(state: &mut T, place: Place, from: Key) -> Result<Fram
 }
 
 /// A frame is zeroed, then the place's own page comes to be beside the tables and gets it.
-fn give_copy<T: Moving>(state: &mut T, place: Place) -> Frame
+fn assign_copy<T: StateCalls>(state: &mut T, place: Place) -> Frame
     requires touch { touches place.pid.0 (T.shown state.old).life.kind ≡ true }
     requires may { MayCopy place (T.shown state.old) }
     requires some { is_short (T.shown state.old).life ≡ false }
@@ -40,11 +40,11 @@ fn give_copy<T: Moving>(state: &mut T, place: Place) -> Frame
     let own = Key::Private(place.pid, place.vpn);
     ready_frame(state);
     state.add_zero(own);
-    state.give(own)
+    state.assign(own)
 }
 
 /// The place's own page becomes valid there: the page that it is a copy of is so no more.
-fn put_copy<T: Moving>(state: &mut T, place: Place, f: Frame)
+fn put_copy<T: StateCalls>(state: &mut T, place: Place, f: Frame)
     requires touch { touches place.pid.0 (T.shown state.old).life.kind ≡ true }
     requires frame { InQuietFrame (key_of_place place) f (T.shown state.old) }
     requires bound { (T.shown state.old).bound place ≡ true }
@@ -59,7 +59,12 @@ fn put_copy<T: Moving>(state: &mut T, place: Place, f: Frame)
 
 /// The page in a frame, which is valid at the place, is copied to the place's own page, if there is
 /// a frame for that.
-fn copy_held<T: Moving>(state: &mut T, place: Place, from: Key, f: Frame) -> Result<(), PageFault>
+fn copy_held<T: StateCalls>(
+    state: &mut T,
+    place: Place,
+    from: Key,
+    f: Frame,
+) -> Result<(), PageFault>
     requires access { is_short (T.shown state.old).life ≡ true
         → is_access (T.shown state.old).life.kind ≡ true }
     requires touch { touches place.pid.0 (T.shown state.old).life.kind ≡ true }
@@ -72,14 +77,18 @@ fn copy_held<T: Moving>(state: &mut T, place: Place, from: Key, f: Frame) -> Res
     ensures loans { T.loans state.new ≡ T.loans state.old }
 {
     find(state, Some(f))?;
-    let own = give_copy(state, place);
+    let own = assign_copy(state, place);
     put_copy(state, place, own);
     state.copy(f, own);
     Ok(())
 }
 
 /// A page is copied to the place's own.
-pub(crate) fn copy_page<T: Moving>(state: &mut T, place: Place, from: Key) -> Result<(), PageFault>
+pub(crate) fn copy_page<T: StateCalls>(
+    state: &mut T,
+    place: Place,
+    from: Key,
+) -> Result<(), PageFault>
     requires needs { NeedsAccess place (T.shown state.old) }
     requires touch { touches place.pid.0 (T.shown state.old).life.kind ≡ true }
     requires may { MayHold from place (T.shown state.old) }

@@ -10,19 +10,19 @@ ghost use Rattle.mm_types.specs.declared.moves.Move.TheVariants as move;
 ghost use Rattle.mm_pager.specs.{Went, InQuietFrame, Soils, FindsNone, Frees, Readies, MayReadIn, MayUse, HasFullSet, MayFault, GivesFrame, Brings};
 ghost use Rattle.mm_pager.specs.{FailsToBring, PutsAtPlace, Faulted, FaultsToWrite};
 
-use mm_state_calls::Moving;
 use mm_reclaim::{NoFrame, find_frame};
+use mm_state_calls::StateCalls;
 use mm_types::{Frame, Held, Key, PageFault, Place, Record, Request};
 
 /// Whether no frame can be taken at once.
-pub(crate) fn is_starved<T: Moving>(state: &T) -> bool
+pub(crate) fn is_starved<T: StateCalls>(state: &T) -> bool
     ensures { result ≡ is_short (T.shown state.now).life }
 {
     state.no_zeroed() && state.no_free() && state.no_standby()
 }
 
 /// Sees that there is a frame to be taken, beside a pinned one.
-pub(crate) fn find<T: Moving>(state: &mut T, pinned: Option<Frame>) -> Result<(), PageFault>
+pub(crate) fn find<T: StateCalls>(state: &mut T, pinned: Option<Frame>) -> Result<(), PageFault>
     requires access { is_short (T.shown state.old).life ≡ true
         → is_access (T.shown state.old).life.kind ≡ true }
     requires shares { (f : Frame) → pinned ≡ Some f →
@@ -44,7 +44,7 @@ pub(crate) fn find<T: Moving>(state: &mut T, pinned: Option<Frame>) -> Result<()
 }
 
 /// Sees that a frame is free or zeroed: without one the first on standby is taken.
-pub(crate) fn free_frame<T: Moving>(state: &mut T)
+pub(crate) fn free_frame<T: StateCalls>(state: &mut T)
     requires touch { is_touch (T.shown state.old).life.kind ≡ true }
     requires some { is_short (T.shown state.old).life ≡ false }
     ensures frees { Frees (T.shown state.old) (T.shown state.new) }
@@ -54,13 +54,13 @@ pub(crate) fn free_frame<T: Moving>(state: &mut T)
 {
     if state.no_zeroed() {
         if state.no_free() {
-            state.steal();
+            state.repurpose();
         }
     }
 }
 
 /// Sees that a frame is zeroed: without one the first that is free is cleared.
-pub(crate) fn ready_frame<T: Moving>(state: &mut T)
+pub(crate) fn ready_frame<T: StateCalls>(state: &mut T)
     requires touch { is_touch (T.shown state.old).life.kind ≡ true }
     requires some { is_short (T.shown state.old).life ≡ false }
     ensures readies { Readies (T.shown state.old) (T.shown state.new) }
@@ -75,7 +75,7 @@ pub(crate) fn ready_frame<T: Moving>(state: &mut T)
 }
 
 /// A demand-zero page gets a frame, where there is one.
-pub(crate) fn give<T: Moving>(state: &mut T, key: Key) -> Frame
+pub(crate) fn assign<T: StateCalls>(state: &mut T, key: Key) -> Frame
     requires touch { is_touch (T.shown state.old).life.kind ≡ true }
     requires zero { is_zero ((T.shown state.old).life.stands key) ≡ true }
     requires some { is_short (T.shown state.old).life ≡ false }
@@ -83,11 +83,11 @@ pub(crate) fn give<T: Moving>(state: &mut T, key: Key) -> Frame
     ensures loans { T.loans state.new ≡ T.loans state.old }
 {
     ready_frame(state);
-    state.give(key)
+    state.assign(key)
 }
 
 /// A page's frame, which is found where it has none.
-fn bring<T: Moving>(state: &mut T, key: Key) -> Result<Frame, PageFault>
+fn bring<T: StateCalls>(state: &mut T, key: Key) -> Result<Frame, PageFault>
     requires access { is_access (T.shown state.old).life.kind ≡ true }
     requires live { is_live (T.shown state.old).life key ≡ true }
     requires own { (T.shown state.old).own ≡ None }
@@ -104,7 +104,7 @@ fn bring<T: Moving>(state: &mut T, key: Key) -> Result<Frame, PageFault>
 }
 
 /// A frame that a page is in: where a read of it is in flight, that is completed.
-fn settle<T: Moving>(state: &mut T, key: Key, f: Frame) -> Result<Frame, PageFault>
+fn settle<T: StateCalls>(state: &mut T, key: Key, f: Frame) -> Result<Frame, PageFault>
     requires access { is_access (T.shown state.old).life.kind ≡ true }
     requires stands { (T.shown state.old).life.stands key ≡ held.Frame f }
     requires own { (T.shown state.old).own ≡ None }
@@ -121,7 +121,7 @@ fn settle<T: Moving>(state: &mut T, key: Key, f: Frame) -> Result<Frame, PageFau
 }
 
 /// A demand-zero page gets a frame that is found for it.
-fn bring_zero<T: Moving>(state: &mut T, key: Key) -> Result<Frame, PageFault>
+fn bring_zero<T: StateCalls>(state: &mut T, key: Key) -> Result<Frame, PageFault>
     requires access { is_access (T.shown state.old).life.kind ≡ true }
     requires zero { is_zero ((T.shown state.old).life.stands key) ≡ true }
     requires own { (T.shown state.old).own ≡ None }
@@ -130,12 +130,12 @@ fn bring_zero<T: Moving>(state: &mut T, key: Key) -> Result<Frame, PageFault>
     ensures loans { T.loans state.new ≡ T.loans state.old }
 {
     find(state, None)?;
-    Ok(give(state, key))
+    Ok(assign(state, key))
 }
 
 /// A page on a device is read into a frame that is found for it: the first free one, or else the
 /// first zeroed one.
-fn bring_stored<T: Moving>(state: &mut T, key: Key) -> Result<Frame, PageFault>
+fn bring_stored<T: StateCalls>(state: &mut T, key: Key) -> Result<Frame, PageFault>
     requires may { MayReadIn key (T.shown state.old) }
     ensures ok { IfOk result (λ f. Brings key f (T.shown state.old) (T.shown state.new)) }
     ensures err { IfErr result (λ e. FailsToBring key e (T.shown state.old) (T.shown state.new)) }
@@ -152,7 +152,7 @@ fn bring_stored<T: Moving>(state: &mut T, key: Key) -> Result<Frame, PageFault>
 }
 
 /// A page becomes valid at a place, in a set that is not full.
-fn put_below<T: Moving>(state: &mut T, key: Key, f: Frame, place: Place)
+fn put_below<T: StateCalls>(state: &mut T, key: Key, f: Frame, place: Place)
     requires touch { touches place.pid.0 (T.shown state.old).life.kind ≡ true }
     requires frame { InQuietFrame key f (T.shown state.old) }
     requires usable { MayUse key place (T.shown state.old) }
@@ -166,7 +166,7 @@ fn put_below<T: Moving>(state: &mut T, key: Key, f: Frame, place: Place)
 }
 
 /// A page becomes valid at a place, in a full set: its oldest page goes right before.
-fn put_full<T: Moving>(state: &mut T, key: Key, f: Frame, place: Place)
+fn put_full<T: StateCalls>(state: &mut T, key: Key, f: Frame, place: Place)
     requires touch { touches place.pid.0 (T.shown state.old).life.kind ≡ true }
     requires frame { InQuietFrame key f (T.shown state.old) }
     requires usable { MayUse key place (T.shown state.old) }
@@ -190,7 +190,7 @@ fn put_full<T: Moving>(state: &mut T, key: Key, f: Frame, place: Place)
 }
 
 /// A page becomes valid at a place.
-pub(crate) fn put<T: Moving>(state: &mut T, key: Key, f: Frame, place: Place)
+pub(crate) fn put<T: StateCalls>(state: &mut T, key: Key, f: Frame, place: Place)
     requires touch { touches place.pid.0 (T.shown state.old).life.kind ≡ true }
     requires frame { InQuietFrame key f (T.shown state.old) }
     requires usable { MayUse key place (T.shown state.old) }
@@ -207,7 +207,11 @@ pub(crate) fn put<T: Moving>(state: &mut T, key: Key, f: Frame, place: Place)
 }
 
 /// A page that is not valid at a place becomes so, in this frame.
-pub(crate) fn fault<T: Moving>(state: &mut T, key: Key, place: Place) -> Result<Frame, PageFault>
+pub(crate) fn fault<T: StateCalls>(
+    state: &mut T,
+    key: Key,
+    place: Place,
+) -> Result<Frame, PageFault>
     requires may { MayFault key place (T.shown state.old) }
     ensures ok { IfOk result (λ f. Faulted key f place (T.shown state.old) (T.shown state.new)) }
     ensures err { IfErr result (λ e. FailsToBring key e (T.shown state.old) (T.shown state.new)) }
@@ -219,7 +223,7 @@ pub(crate) fn fault<T: Moving>(state: &mut T, key: Key, place: Place) -> Result<
 }
 
 /// Whether a page that is valid must be soiled before it is written.
-fn must_soil(r: &Record) -> bool
+fn must_set_dirty(r: &Record) -> bool
     ensures { result ≡ ((not r.now.changed && not (has_request r.now.request)) ||
         (is_write r.now.request && not (is_again r.now.request))) }
 {
@@ -231,7 +235,7 @@ fn must_soil(r: &Record) -> bool
 }
 
 /// A page that is valid can be written then: it is soiled, where it is not yet.
-pub(crate) fn soil<T: Moving>(state: &mut T, place: Place, f: Frame)
+pub(crate) fn set_dirty<T: StateCalls>(state: &mut T, place: Place, f: Frame)
     requires touch { is_touch (T.shown state.old).life.kind ≡ true }
     requires valid { (T.shown state.old).life.valid place ≡ Some f }
     ensures soils { Soils f (T.shown state.old) (T.shown state.new) }
@@ -239,13 +243,13 @@ pub(crate) fn soil<T: Moving>(state: &mut T, place: Place, f: Frame)
     ensures loans { T.loans state.new ≡ T.loans state.old }
 {
     let r = state.look(f);
-    if must_soil(&r) {
-        state.soil(f);
+    if must_set_dirty(&r) {
+        state.set_dirty(f);
     }
 }
 
 /// A page that is not valid at a place becomes so, and can be written.
-pub(crate) fn fault_to_write<T: Moving>(
+pub(crate) fn fault_to_write<T: StateCalls>(
     state: &mut T,
     key: Key,
     place: Place,
@@ -256,6 +260,6 @@ pub(crate) fn fault_to_write<T: Moving>(
     ensures loans { T.loans state.new ≡ T.loans state.old }
 {
     let f = fault(state, key, place)?;
-    soil(state, place, f);
+    set_dirty(state, place, f);
     Ok(())
 }

@@ -7,7 +7,7 @@ ghost use Rattle.mm_store.specs.{wrote, backed_by, block_at};
 ghost use Rattle.mm_state_calls.specs.{backing_of_frame};
 ghost use Rattle.mm_pager.specs.{HoldsFilePage, EndsFlight, WritesChanged, FlushesFrame, FlushedOnePage};
 
-use mm_state_calls::Moving;
+use mm_state_calls::StateCalls;
 use mm_types::{Frame, Held, Key, Record, Request, WriteFault};
 
 /// Whether the request of a frame is a write.
@@ -21,7 +21,7 @@ fn is_writing(r: &Record) -> bool
 }
 
 /// A write of a page's frame that is in flight ends. False where it failed.
-fn end_flight<T: Moving>(state: &mut T, f: Frame) -> bool
+fn end_flight<T: StateCalls>(state: &mut T, f: Frame) -> bool
     requires kind { (T.shown state.old).life.kind ≡ kind.Call }
     requires filed { HoldsFilePage f (T.shown state.old) }
     requires own { (T.shown state.old).own ≡ None }
@@ -37,7 +37,7 @@ fn end_flight<T: Moving>(state: &mut T, f: Frame) -> bool
 }
 
 /// A page that is changed, and not being written, is written. False where that failed.
-fn write_changed<T: Moving>(state: &mut T, f: Frame) -> bool
+fn write_changed<T: StateCalls>(state: &mut T, f: Frame) -> bool
     requires kind { (T.shown state.old).life.kind ≡ kind.Call }
     requires filed { HoldsFilePage f (T.shown state.old) }
     requires still { is_write (record_at (T.shown state.old).life.frames f.0).request ≡ false }
@@ -55,7 +55,7 @@ fn write_changed<T: Moving>(state: &mut T, f: Frame) -> bool
 }
 
 /// The page of a frame is in its block then, unless a write failed.
-fn flush_frame<T: Moving>(state: &mut T, f: Frame) -> Result<(), WriteFault>
+fn flush_frame<T: StateCalls>(state: &mut T, f: Frame) -> Result<(), WriteFault>
     requires kind { (T.shown state.old).life.kind ≡ kind.Call }
     requires filed { HoldsFilePage f (T.shown state.old) }
     requires own { (T.shown state.old).own ≡ None }
@@ -74,7 +74,7 @@ fn flush_frame<T: Moving>(state: &mut T, f: Frame) -> Result<(), WriteFault>
 
 /// A page of a file is in its block then, unless a write failed. Where it is in no frame it is
 /// there already.
-pub(crate) fn flush_page<T: Moving>(state: &mut T, key: Key) -> Result<(), WriteFault>
+pub(crate) fn flush_page<T: StateCalls>(state: &mut T, key: Key) -> Result<(), WriteFault>
     requires kind { (T.shown state.old).life.kind ≡ kind.Call }
     requires filed { IsSome (block_at (backed_by
         (T.shown state.old).life ((T.shown state.old).life.stands key))) }

@@ -1,4 +1,4 @@
-//! The store that pages: each call of `Pages`, over the moves of a joined state.
+//! The store that pages: each call of `PageStore`, over the moves of a joined state.
 #![tactic(auto)]
 
 mod calls;
@@ -7,8 +7,8 @@ mod copying;
 mod faults;
 mod flushing;
 mod making;
-mod paged;
+mod pager;
 mod releasing;
 mod starting;
 
-pub use paged::Paged;
+pub use pager::Pager;

@@ -5,7 +5,7 @@ ghost use Rattle.mm_types.specs.declared.numbers.Key.TheVariants.{Shared};
 ghost use Rattle.mm_store.specs.{Makes};
 ghost use Rattle.mm_pager.specs.{BlocksWritten, PagesAdded, BuiltAs};
 
-use mm_state_calls::Moving;
+use mm_state_calls::StateCalls;
 use mm_types::{Area, Block, Key, MakeFault, NoMemory};
 
 /// The byte that page `i` of a file holds throughout, where page 0 holds `byte`.
@@ -16,7 +16,7 @@ fn page_byte(byte: u8, i: u32) -> u8
 }
 
 /// Writes the blocks of a new file in order, up to the first write that fails. False where one did.
-fn write_blocks<T: Moving>(state: &mut T, first: Block, n: u32, byte: u8) -> bool
+fn write_blocks<T: StateCalls>(state: &mut T, first: Block, n: u32, byte: u8) -> bool
     requires room { first.0 + n ≤ (T.shown state.old).life.machine.blocks }
     requires new { (b : ℕ) → first.0 ≤ b → (T.shown state.old).life.added b ≡ false }
     ensures written { BlocksWritten first.0 n byte result (T.shown state.old) (T.shown state.new) }
@@ -32,7 +32,7 @@ fn write_blocks<T: Moving>(state: &mut T, first: Block, n: u32, byte: u8) -> boo
 }
 
 /// The pages of a new file come to be, each in its block.
-fn add_pages<T: Moving>(state: &mut T, area: Area, first: Block, n: u32)
+fn add_pages<T: StateCalls>(state: &mut T, area: Area, first: Block, n: u32)
     requires kind { (T.shown state.old).life.kind ≡ kind.Call }
     requires open { (T.shown state.old).areas area.0 ≡ Some n }
     requires dead { (i : ℕ) → (T.shown state.old).life.stands (Shared area i) ≡ held.Dead }
@@ -48,7 +48,7 @@ fn add_pages<T: Moving>(state: &mut T, area: Area, first: Block, n: u32)
 
 /// Makes a file in an area that is not open. After an error the area is closed, and no page is
 /// there.
-pub(crate) fn build_file<T: Moving>(
+pub(crate) fn build_file<T: StateCalls>(
     state: &mut T,
     area: Area,
     first: Block,

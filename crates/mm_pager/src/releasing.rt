@@ -5,11 +5,11 @@ ghost use Rattle.mm_store.specs.{AreAmong, place_at};
 ghost use Rattle.mm_store.specs.Leaving.{Leaving};
 ghost use Rattle.mm_pager.specs.{LetGo, LetsGo, MayLetGo, MayLetOwnGo, NextGone, OwnLetGo, Thins};
 
-use mm_state_calls::Moving;
+use mm_state_calls::StateCalls;
 use mm_types::{Key, Pid, Place, Vpn};
 
 /// A bound place is valid no more.
-fn let_go<T: Moving>(state: &mut T, place: Place)
+fn let_go<T: StateCalls>(state: &mut T, place: Place)
     requires bound { (T.shown state.old).bound place ≡ true }
     requires may { MayLetGo place (T.shown state.old) }
     ensures gone { LetGo place (T.shown state.old) (T.shown state.new) }
@@ -22,7 +22,7 @@ fn let_go<T: Moving>(state: &mut T, place: Place)
 }
 
 /// The own place of a private key is valid no more.
-pub(crate) fn let_own_go<T: Moving>(state: &mut T, key: Key)
+pub(crate) fn let_own_go<T: StateCalls>(state: &mut T, key: Key)
     requires may { MayLetOwnGo key (T.shown state.old) }
     ensures gone { OwnLetGo key (T.shown state.old) (T.shown state.new) }
     ensures loans { T.loans state.new ≡ T.loans state.old }
@@ -35,7 +35,7 @@ pub(crate) fn let_own_go<T: Moving>(state: &mut T, key: Key)
 
 /// The lowest valid page of an open process from `from` up to `end` is valid no more. Answers the
 /// page after it; or `end`, where none is valid.
-fn let_next_go<T: Moving>(state: &mut T, pid: Pid, from: u32, end: u32) -> u32
+fn let_next_go<T: StateCalls>(state: &mut T, pid: Pid, from: u32, end: u32) -> u32
     requires some { from < end }
     requires open { (T.shown state.old).is_open pid.0 ≡ true }
     requires may { (page : ℕ) → from ≤ page → page < end
@@ -58,7 +58,7 @@ fn let_next_go<T: Moving>(state: &mut T, pid: Pid, from: u32, end: u32) -> u32
 
 /// The pages of an open process in a range are valid no more, in rising order. Only those that are
 /// valid are gone through.
-pub(crate) fn let_all_go<T: Moving>(state: &mut T, pid: Pid, first: Vpn, n: u32)
+pub(crate) fn let_all_go<T: StateCalls>(state: &mut T, pid: Pid, first: Vpn, n: u32)
     requires open { (T.shown state.old).is_open pid.0 ≡ true }
     requires may { (page : ℕ) → first.0 ≤ page → page < first.0 + n
         → MayLetGo (place_at pid page) (T.shown state.old) }

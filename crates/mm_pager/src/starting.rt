@@ -10,14 +10,14 @@ ghost use Rattle.mm_store.specs.declared.outcomes.Start.TheVariants as start_of;
 ghost use Rattle.mm_pager.specs.{ready_at, MayUse, AccessBegun, IsBeingRead, answered, ready_after};
 
 use crate::completing::is_reading;
-use crate::faults::{free_frame, give, is_starved, put};
-use crate::paged::Wanted;
-use mm_state_calls::Moving;
+use crate::faults::{assign, free_frame, is_starved, put};
+use crate::pager::Wanted;
+use mm_state_calls::StateCalls;
 use mm_store::{Need, Start};
 use mm_types::{Frame, Held, Key, Place, Tid, Why};
 
 /// The access of a page that has a frame: the page becomes valid, unless it is being read.
-fn start_in_frame<T: Moving>(state: &mut T, key: Key, f: Frame, place: Place) -> Start
+fn start_in_frame<T: StateCalls>(state: &mut T, key: Key, f: Frame, place: Place) -> Start
     requires thread { (T.shown state.old).life.kind ≡ kind.Thread place.pid }
     requires stands { (T.shown state.old).life.stands key ≡ held.Frame f }
     requires usable { MayUse key place (T.shown state.old) }
@@ -35,7 +35,7 @@ fn start_in_frame<T: Moving>(state: &mut T, key: Key, f: Frame, place: Place) ->
 }
 
 /// The access of a demand-zero page: it gets a frame, if there is one, and becomes valid.
-fn start_zero<T: Moving>(state: &mut T, key: Key, place: Place) -> Start
+fn start_zero<T: StateCalls>(state: &mut T, key: Key, place: Place) -> Start
     requires thread { (T.shown state.old).life.kind ≡ kind.Thread place.pid }
     requires zero { is_zero ((T.shown state.old).life.stands key) ≡ true }
     requires usable { MayUse key place (T.shown state.old) }
@@ -47,14 +47,14 @@ fn start_zero<T: Moving>(state: &mut T, key: Key, place: Place) -> Start
     if is_starved(state) {
         return Start::Pending(Why::Frame);
     }
-    let f = give(state, key);
+    let f = assign(state, key);
     put(state, key, f, place);
     Start::Ready
 }
 
 /// The access of a page on a device: a read of it begins, into the first free frame, or else the
 /// first zeroed one, if there is room for a request and a frame.
-fn start_stored<T: Moving>(state: &mut T, key: Key) -> Start
+fn start_stored<T: StateCalls>(state: &mut T, key: Key) -> Start
     requires thread { is_thread (T.shown state.old).life.kind ≡ true }
     requires stored { is_stored ((T.shown state.old).life.stands key) ≡ true }
     ensures begun { (place : Place)
@@ -73,7 +73,7 @@ fn start_stored<T: Moving>(state: &mut T, key: Key) -> Start
 }
 
 /// The access of a page that is not valid at its place.
-fn start_fault<T: Moving>(state: &mut T, key: Key, place: Place) -> Start
+fn start_fault<T: StateCalls>(state: &mut T, key: Key, place: Place) -> Start
     requires thread { (T.shown state.old).life.kind ≡ kind.Thread place.pid }
     requires live { is_live (T.shown state.old).life key ≡ true }
     requires usable { MayUse key place (T.shown state.old) }
@@ -90,7 +90,7 @@ fn start_fault<T: Moving>(state: &mut T, key: Key, place: Place) -> Start
 }
 
 /// The access of a page, which needs no device where it is valid already.
-fn start_page<T: Moving>(state: &mut T, key: Key, place: Place) -> Start
+fn start_page<T: StateCalls>(state: &mut T, key: Key, place: Place) -> Start
     requires thread { (T.shown state.old).life.kind ≡ kind.Thread place.pid }
     requires live { is_live (T.shown state.old).life key ≡ true }
     requires usable { MayUse key place (T.shown state.old) }
@@ -107,7 +107,7 @@ fn start_page<T: Moving>(state: &mut T, key: Key, place: Place) -> Start
 }
 
 /// For a copy there must be a frame, once its page is had.
-fn with_frame<T: Moving>(state: &T, need: Need, began: Start) -> Start
+fn with_frame<T: StateCalls>(state: &T, need: Need, began: Start) -> Start
     ensures { result ≡ answered need began (is_short (T.shown state.now).life) }
 {
     match need {
@@ -125,7 +125,7 @@ fn with_frame<T: Moving>(state: &T, need: Need, began: Start) -> Start
 }
 
 /// The access of a page, or of a page that is to be copied.
-pub(crate) fn start_key<T: Moving>(state: &mut T, place: Place, key: Key, need: Need) -> Start
+pub(crate) fn start_key<T: StateCalls>(state: &mut T, place: Place, key: Key, need: Need) -> Start
     requires thread { (T.shown state.old).life.kind ≡ kind.Thread place.pid }
     requires live { is_live (T.shown state.old).life key ≡ true }
     requires usable { MayUse key place (T.shown state.old) }
@@ -139,7 +139,7 @@ pub(crate) fn start_key<T: Moving>(state: &mut T, place: Place, key: Key, need: 
 }
 
 /// The thread waits for a read of its page that is in flight, or for nothing.
-pub(crate) fn set_wait<T: Moving>(state: &mut T, tid: Tid, key: Key, began: Start)
+pub(crate) fn set_wait<T: StateCalls>(state: &mut T, tid: Tid, key: Key, began: Start)
     requires reading { began ≡ start_of.Pending why.Read → IsBeingRead key (T.shown state.old) }
     requires own { (T.shown state.old).own ≡ None }
     ensures rest { T.shown state.new ≡ record (T.shown state.old) {

@@ -3,9 +3,9 @@ ghost use Rattle.mm_move_rules.specs.{freed};
 ghost use Rattle.mm_frame_laws.specs.{backing_to};
 ghost use Rattle.mm_parts.specs.{home_entry, entry_backing};
 
+use mm_page_tables::Entry;
 use mm_slots::Slots;
 use mm_types::{Backing, Slot, Stored};
-use mm_page_tables::Entry;
 
 /// The entry of a page that is in no frame, by where its bytes stand.
 pub(crate) fn home(backing: Backing) -> Entry
@@ -46,6 +46,6 @@ pub(crate) fn give_back(slots: &mut Slots, slot: Option<Slot>)
     ensures { slots.new.free ≡ freed slots.old.free (option_map (λ t. t.0) slot) }
 {
     if let Some(s) = slot {
-        slots.give(s);
+        slots.put_back(s);
     }
 }

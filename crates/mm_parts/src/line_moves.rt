@@ -6,11 +6,11 @@ ghost use Rattle.mm_page_tables.specs.Shown as tables;
 ghost use Rattle.mm_parts.specs.{parts_after, IsPlainLine, words_begun, CanBeginSet, first_parts, first_kind};
 
 use crate::parts::Parts;
-use mm_requests::Flight;
+use mm_page_tables::Words;
 use mm_pfn_database::Frames;
+use mm_requests::Flight;
 use mm_slots::Slots;
 use mm_types::{LineKind, Machine, NoMemory};
-use mm_page_tables::Words;
 use std::alloc::Global;
 
 /// The kind of the first line.

@@ -10,7 +10,7 @@ use mm_types::{Counts, Frame};
 impl Parts {
     ghost use Rattle.mm_parts.specs.{shown_parts};
 
-    /// The first zeroed frame, that of `give`; `None` exactly where none is zeroed.
+    /// The first zeroed frame, that of `assign`; `None` exactly where none is zeroed.
     pub fn front_zeroed(&self) -> Option<Frame>
         ensures { result ≡ first_frame (shown_parts self.now).life.frames.zeroed }
     {
@@ -24,7 +24,7 @@ impl Parts {
         self.frames.front_free()
     }
 
-    /// The first frame on standby, that of `steal`; `None` exactly where none is there.
+    /// The first frame on standby, that of `repurpose`; `None` exactly where none is there.
     pub fn front_standby(&self) -> Option<Frame>
         ensures { result ≡ first_frame (shown_parts self.now).life.frames.standby }
     {

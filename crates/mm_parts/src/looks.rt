@@ -8,9 +8,9 @@ ghost use Rattle.mm_working_sets.specs.{IsNextFrom};
 ghost use Rattle.mm_frame_laws.specs.{IsNextPage, NoPageFollows};
 
 use crate::parts::Parts;
+use mm_page_tables::Entry;
 use mm_pfn_database::Frames;
 use mm_types::{Frame, Held, Key, LineKind, Machine, Pid, Place, Record, Vpn};
-use mm_page_tables::Entry;
 
 /// The frame of a valid entry.
 fn frame_of(entry: Entry) -> Option<Frame>

@@ -10,9 +10,9 @@ ghost use Rattle.mm_page_tables.specs.Shown as tables;
 
 use crate::backings::{give_back, home};
 use crate::parts::Parts;
+use mm_page_tables::{Entry, Words};
 use mm_pfn_database::{Frames, Stolen};
 use mm_types::{Block, Frame, Key, LineKind, Place, Slot};
-use mm_page_tables::{Entry, Words};
 
 /// The page of an entry is no more: its frame goes, unless a request holds it. Answers the slot to
 /// give back.
@@ -98,7 +98,7 @@ impl Parts {
     }
 
     /// The first zeroed frame is that of a page that reads as zero and has none.
-    pub fn give(&mut self, key: Key) -> Frame
+    pub fn assign(&mut self, key: Key) -> Frame
         requires legal { IsLegal (move.Give (front (shown_parts self.old).life.frames.zeroed) key)
             (shown_parts self.old).life }
         ensures frame { result ≡ front (shown_parts self.old).life.frames.zeroed }
@@ -122,7 +122,7 @@ impl Parts {
 
     /// The first frame on standby is taken from its page, and is free: the page is where it was
     /// read from or written to.
-    pub fn steal(&mut self)
+    pub fn repurpose(&mut self)
         requires legal { IsLegal (move.Steal (front (shown_parts self.old).life.frames.standby))
             (shown_parts self.old).life }
         ensures made { shown_parts self.new ≡
@@ -235,12 +235,12 @@ impl Parts {
     /// A page that is valid somewhere differs from its backing from now on: a slot that backed it
     /// is free. While it is being written, it is to be written again.
     #[tactic(auto, using(mm_move_laws::proofs::Facts::facts_of))]
-    pub fn soil(&mut self, f: Frame)
+    pub fn set_dirty(&mut self, f: Frame)
         requires legal { IsLegal (move.Soil f) (shown_parts self.old).life }
         ensures made { shown_parts self.new ≡ parts_after (shown_parts self.old) (move.Soil f) }
     {
-        if let Some(slot) = self.frames.soil(f) {
-            self.slots.give(slot);
+        if let Some(slot) = self.frames.set_dirty(f) {
+            self.slots.put_back(slot);
         }
     }
 }

@@ -5,8 +5,8 @@ ghost use Rattle.mm_ram.specs.{bytes_of, bytes_from, overwritten, with_page, pag
 ghost use Rattle.mm_parts.specs.{ages_older};
 
 use crate::parts::Parts;
-use mm_types::{Frame, Pid, Place};
 use mm_page_tables::Entry;
+use mm_types::{Frame, Pid, Place};
 
 impl Parts {
     ghost use Rattle.mm_parts.specs.{shown_parts};

@@ -1,11 +1,11 @@
 ghost use Rattle.mm_page_tables.specs.Shown as tables;
 ghost use Rattle.mm_parts.specs.Kept.{PartsKept};
 
-use mm_requests::Flight;
+use mm_page_tables::Words;
 use mm_pfn_database::Frames;
+use mm_requests::Flight;
 use mm_slots::Slots;
 use mm_types::{Frame, LineKind, Machine};
-use mm_page_tables::Words;
 
 /// Frames, words, slots and requests, joined.
 ///

@@ -14,10 +14,10 @@ use crate::backings::{backing_of, give_back, home, target};
 use crate::parts::Parts;
 use crate::requests::{begin_request, end_request};
 use mm_devices::Inject;
+use mm_page_tables::{Entry, Words};
 use mm_pfn_database::{Dirty, Frames};
 use mm_slots::Slots;
 use mm_types::{Backing, Failed, Frame, Key, Stored};
-use mm_page_tables::{Entry, Words};
 
 /// The frame that a page is read into is taken: the first free one, or where none is free the first
 /// zeroed one.

@@ -262,7 +262,7 @@ impl Frames {
     }
 
     /// Spends a blank: its frame becomes that of a demand-zero page, and goes to modified (the move
-    /// `give`).
+    /// `assign`).
     pub fn bind(&mut self, b: Blank, key: Key) -> Frame
         requires { IsBlank self.old b }
         ensures same { result.0 ≡ b }
@@ -410,7 +410,7 @@ impl Frames {
 
     /// The page of a frame with shares is changed (the move `soil`): a slot that backed it is given
     /// back. It was not changed, or it is being written and was not changed since that began.
-    pub fn soil(&mut self, f: Frame) -> Option<Slot>
+    pub fn set_dirty(&mut self, f: Frame) -> Option<Slot>
         requires shared { 1 ≤ (record_at self.old.table f.0).shares }
         requires clean { can_be_soiled (record_at self.old.table f.0) ≡ true }
         ensures slot { option_map (λ s. s.0) result

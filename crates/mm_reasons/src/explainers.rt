@@ -1,8 +1,8 @@
-use crate::reasons::put_reason;
+use crate::reasons::{is_near_machine, put_reason};
 use crate::texts::Piece::{Number, Text};
 use crate::texts::{put, put_form};
-use crate::warnings::put_warning;
-use mm_names::{Given, Meaning, may_stand, meant, without_mark};
+use crate::warnings::{put_line_warning, put_warning};
+use mm_names::{Meaning, Names, may_stand, meant, without_mark};
 use mm_types::{AccessSpec, Event, Name, NoMemory};
 use std::alloc::Global;
 
@@ -12,7 +12,7 @@ const MOST_TOLD: u32 = 20;
 /// Reads a written file again and tells what is wrong with its lines.
 #[derive(Drop)]
 pub(crate) struct Explainer {
-    names: Vec<Given>,
+    names: Names,
     begun: bool,
     /// How many lines were read.
     number: u32,
@@ -28,7 +28,7 @@ impl Explainer {
     /// Nothing was read.
     pub(crate) fn new(alloc: Global, leaves_out: bool) -> Explainer {
         Explainer {
-            names: Vec::new(alloc),
+            names: Names::new(alloc),
             begun: false,
             number: 0,
             faults: 0,
@@ -61,8 +61,8 @@ impl Explainer {
     }
 
     /// The names that the lines gave.
-    pub(crate) fn names(&self) -> &[Given] {
-        self.names.as_slice()
+    pub(crate) fn names(&self) -> &Names {
+        &self.names
     }
 
     /// A fault of this reason, unless enough were told.
@@ -75,10 +75,13 @@ impl Explainer {
         put_form(&mut self.out, b"line %%\n", &[number, Text(reason)])
     }
 
-    /// A warning, unless enough were told.
-    fn warn(&mut self, alloc: Global, event: &Event) -> Result<(), NoMemory> {
+    /// A warning of what an event or its line says, unless enough were told.
+    fn warn(&mut self, alloc: Global, event: &Event, line: &[u8]) -> Result<(), NoMemory> {
         let mut warning: Vec<u8> = Vec::new(alloc);
         put_warning(&mut warning, event)?;
+        if warning.is_empty() {
+            put_line_warning(&mut warning, alloc, line)?;
+        }
         if warning.is_empty() || self.warnings >= MOST_TOLD {
             return Ok(());
         }
@@ -89,10 +92,10 @@ impl Explainer {
     }
 
     /// A line that means an event.
-    fn say(&mut self, alloc: Global, event: &Event) -> Result<(), NoMemory> {
+    fn say(&mut self, alloc: Global, event: &Event, line: &[u8]) -> Result<(), NoMemory> {
         if may_stand(self.begun, event) {
             self.begun = true;
-            return self.warn(alloc, event);
+            return self.warn(alloc, event, line);
         }
         if self.begun {
             return self.fault(b": a second 'machine'; a script has one, in its first line");
@@ -101,10 +104,13 @@ impl Explainer {
         self.fault(b": a script begins with 'machine'")
     }
 
-    /// A line that means nothing.
+    /// A line that means nothing. One that was to be the `machine` makes no second message.
     fn refuse(&mut self, alloc: Global, line: &[u8]) -> Result<(), NoMemory> {
+        if !self.begun && !self.leaves_out {
+            self.begun = is_near_machine(alloc, line)?;
+        }
         let mut reason: Vec<u8> = Vec::new(alloc);
-        put_reason(&mut reason, alloc, self.names.as_slice(), line)?;
+        put_reason(&mut reason, alloc, &self.names, line)?;
         self.fault(reason.as_slice())
     }
 
@@ -112,11 +118,8 @@ impl Explainer {
     fn take(&mut self, alloc: Global, meaning: &Meaning, line: &[u8]) -> Result<(), NoMemory> {
         match meaning {
             Meaning::Nothing => Ok(()),
-            Meaning::Gives(given) => {
-                self.names.push(*given)?;
-                Ok(())
-            }
-            Meaning::Says(event) => self.say(alloc, event),
+            Meaning::Gives(given) => self.names.give(given),
+            Meaning::Says(event) => self.say(alloc, event, line),
             Meaning::Wrong => self.refuse(alloc, line),
         }
     }
@@ -138,7 +141,7 @@ impl Explainer {
         let _event: Option<Event> = None;
         let _name: Option<Name> = None;
         let _access: Option<AccessSpec> = None;
-        let meaning = meant(alloc, self.names.as_slice(), line)?;
+        let meaning = meant(alloc, &self.names, line)?;
         self.explain(alloc, &meaning, line)
     }
 
@@ -151,9 +154,25 @@ impl Explainer {
     }
 }
 
+/// Whether a text is UTF-16, by its mark or by a byte of 0 near its beginning.
+fn is_utf_16(text: &[u8]) -> bool {
+    match text {
+        [0xFF, 0xFE, ..] => true,
+        [0xFE, 0xFF, ..] => true,
+        [_, 0, ..] => true,
+        [0, _, ..] => true,
+        _ => false,
+    }
+}
+
 /// What is wrong with a written file.
 pub(crate) fn explained(alloc: Global, text: &[u8]) -> Result<Explainer, NoMemory> {
     let mut explainer = Explainer::new(alloc, false);
+    if is_utf_16(text) {
+        explainer.number = 1;
+        explainer.fault(b": the file is UTF-16; save it as UTF-8")?;
+        return Ok(explainer);
+    }
     let mut line: Vec<u8> = Vec::new(alloc);
     for byte in without_mark(text) {
         if *byte == b'\n' {

@@ -5,6 +5,7 @@ mod explainers;
 mod forms;
 mod lines;
 mod nearest;
+mod numbers;
 mod reasons;
 mod talks;
 mod texts;

@@ -1,6 +1,6 @@
 use crate::usages::{CALLS, NAMES, USAGES};
-use mm_names::Given;
-use mm_types::NoMemory;
+use mm_names::{Names, lowered};
+use mm_types::{Name, NoMemory};
 use std::alloc::Global;
 use strsim::generic_levenshtein;
 
@@ -11,14 +11,15 @@ struct Nearest<'a> {
     edits: usize,
 }
 
-/// The nearer of what was found and a text.
+/// The nearer of what was found and a text, letters in either case being one.
 fn nearer<'a>(
     alloc: Global,
     found: Nearest<'a>,
     word: &[u8],
     text: &'a [u8],
 ) -> Result<Nearest<'a>, NoMemory> {
-    let edits = generic_levenshtein(alloc, word, text)?;
+    let low = lowered(alloc, text)?;
+    let edits = generic_levenshtein(alloc, word, low.as_slice())?;
     if edits < found.edits {
         Ok(Nearest { text, edits })
     } else {
@@ -26,15 +27,14 @@ fn nearer<'a>(
     }
 }
 
-/// Nothing is found that takes three edits or more. Nor are words that long that no name is near.
+/// How many edits are too many: one is allowed to a word of up to three letters, two to a longer
+/// one. Words so long that no name is near have none.
 fn none<'a>(word: &[u8]) -> Option<Nearest<'a>> {
     if word.len() > 40 {
         return None;
     }
-    Some(Nearest {
-        text: b"",
-        edits: 3,
-    })
+    let edits = if word.len() > 3 { 3 } else { 2 };
+    Some(Nearest { text: b"", edits })
 }
 
 /// What was found.
@@ -46,7 +46,7 @@ fn text_of<'a>(found: Nearest<'a>) -> Option<&'a [u8]> {
     }
 }
 
-/// The keyword or call nearest to a word in lower case, at one or two edits.
+/// The keyword or call nearest to a word in lower case.
 pub(crate) fn nearest_keyword(
     alloc: Global,
     word: &[u8],
@@ -63,20 +63,40 @@ pub(crate) fn nearest_keyword(
     Ok(text_of(found))
 }
 
-/// The name nearest to a word, at one or two edits.
-pub(crate) fn nearest_name<'a>(
+/// The name of Windows nearest to a word.
+pub(crate) fn nearest_windows_name(
     alloc: Global,
-    names: &'a [Given],
     word: &[u8],
-) -> Result<Option<&'a [u8]>, NoMemory> {
+) -> Result<Option<&'static [u8]>, NoMemory> {
+    let low = lowered(alloc, word)?;
     let Some(mut found) = none(word) else {
         return Ok(None);
     };
     for name in &NAMES {
-        found = nearer(alloc, found, word, name.as_bytes())?;
-    }
-    for given in names {
-        found = nearer(alloc, found, word, given.name.as_slice())?;
+        found = nearer(alloc, found, low.as_slice(), name.as_bytes())?;
     }
     Ok(text_of(found))
+}
+
+/// The name that the script gave nearest to a word.
+pub(crate) fn nearest_given_name(
+    alloc: Global,
+    names: &Names,
+    word: &[u8],
+) -> Result<Option<Name>, NoMemory> {
+    let low = lowered(alloc, word)?;
+    let Some(limit) = none(word) else {
+        return Ok(None);
+    };
+    let mut fewest = limit.edits;
+    let mut found = None;
+    for name in names.names(alloc)?.as_slice() {
+        let given = lowered(alloc, name.as_slice())?;
+        let edits = generic_levenshtein(alloc, low.as_slice(), given.as_slice())?;
+        if edits < fewest {
+            fewest = edits;
+            found = Some(*name);
+        }
+    }
+    Ok(found)
 }

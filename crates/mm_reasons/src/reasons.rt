@@ -1,12 +1,13 @@
 ghost use Rattle.std.specs.Prelude.{◌≤◌, length};
 
 use crate::lines::WordLine;
-use crate::nearest::{nearest_keyword, nearest_name};
-use crate::texts::Piece::{self, Hex, Number, Place, Text, Usage, Word};
+use crate::nearest::nearest_keyword;
+use crate::numbers::{is_known, put_no_number};
+use crate::texts::Piece::{Hex, Number, Place, Text, Usage, Word};
 use crate::texts::{put, put_form};
 use crate::usages::{field_at, fields_of, range_of};
 use mm_names::{
-    Given, Kind, Last, Verb, keyword_for, kind_at, lowered, next_number, plain_of, value_of,
+    Kind, Last, Names, Verb, keyword_for, kind_at, lowered, next_number, plain_of, value_of,
     verb_after, verb_of, windows_value,
 };
 use mm_script::{is_text, parse_line};
@@ -33,124 +34,33 @@ fn put_no_keyword(
     }
 }
 
-/// Where a term of a number begins and ends.
-#[derive(Clone, Copy)]
-struct Term {
-    from: usize,
-    to: usize,
+/// How a name is given.
+fn put_let_form(out: &mut Vec<u8>) -> Result<(), NoMemory> {
+    put(out, b": a name is given so: let NAME = NUMBER")
 }
 
-/// The first term of a number that has no value, or the whole where its terms do not go together.
-fn bad_term(alloc: Global, names: &[Given], word: &[u8]) -> Result<Term, NoMemory> {
-    let whole = Term {
-        from: 0,
-        to: word.len(),
-    };
-    let mut from = 0usize;
-    for (i, byte) in word.iter().enumerate() {
-        if *byte == b'+' || *byte == b'|' {
-            if is_bad(alloc, names, word, from, i)? {
-                return Ok(Term { from, to: i });
-            }
-            from = i.saturating_add(1);
-        }
+/// That a line does not keep its answer, or how a name is given.
+fn put_assignment(out: &mut Vec<u8>, alloc: Global, line: &WordLine) -> Result<(), NoMemory> {
+    let third = lowered(alloc, line.word(2))?;
+    if fields_of(keyword_for(third.as_slice())).is_none() {
+        return put_let_form(out);
     }
-    if from > 0 && is_bad(alloc, names, word, from, word.len())? {
-        return Ok(Term {
-            from,
-            to: word.len(),
-        });
-    }
-    Ok(whole)
-}
-
-/// Whether a part of a word has no value.
-fn is_bad(
-    alloc: Global,
-    names: &[Given],
-    word: &[u8],
-    from: usize,
-    to: usize,
-) -> Result<bool, NoMemory> {
-    let term = match word.get(from..to) {
-        Some(term) => term,
-        None => b"",
-    };
-    let value = value_of(alloc, names, term)?;
-    Ok(value.is_none())
-}
-
-/// Whether a word stood in quotes.
-fn is_quoted(word: &[u8]) -> bool {
-    match word {
-        [first, ..] => *first == b'"',
-        [] => false,
-    }
-}
-
-/// Whether a word begins as a number does.
-fn begins_as_number(word: &[u8]) -> bool {
-    match word {
-        [first, ..] => first.is_ascii_digit(),
-        [] => false,
-    }
-}
-
-/// That a word is no number.
-fn put_no_number(
-    out: &mut Vec<u8>,
-    alloc: Global,
-    names: &[Given],
-    line: &WordLine,
-    at: usize,
-) -> Result<(), NoMemory> {
-    let word = line.word(at);
-    let term = bad_term(alloc, names, word)?;
-    let bad = match word.get(term.from..term.to) {
-        Some(bad) => bad,
-        None => word,
-    };
-    if bad.is_empty() {
-        return put_form(
-            out,
-            b"%a number stands on each side of '+' and '|'",
-            &[Place(line.column_behind(at, 0))],
-        );
-    }
-    let place = Place(line.column_behind(at, term.from));
-    put_no_value(out, alloc, names, place, bad)
-}
-
-/// That a word at a place has no value.
-fn put_no_value(
-    out: &mut Vec<u8>,
-    alloc: Global,
-    names: &[Given],
-    place: Piece,
-    word: &[u8],
-) -> Result<(), NoMemory> {
-    let said = Word(word);
-    if is_quoted(word) {
-        return put_form(out, b"%a number is wanted, and here is text", &[place]);
-    }
-    if begins_as_number(word) {
-        return put_form(out, b"%% is no number below 4294967296", &[place, said]);
-    }
-    match nearest_name(alloc, names, word)? {
-        Some(near) => put_form(out, b"%% is no name; %?", &[place, said, Word(near)]),
-        None => put_form(out, b"%% is no name", &[place, said]),
-    }
+    put_form(
+        out,
+        b"%a line gives no name to its answer; write the call alone",
+        &[Place(line.column_behind(0, 0))],
+    )
 }
 
 /// What is wrong with a line that begins with `let`.
 fn put_bad_let(
     out: &mut Vec<u8>,
     alloc: Global,
-    names: &[Given],
+    names: &Names,
     line: &WordLine,
 ) -> Result<(), NoMemory> {
     if line.count() != 4 || !is_text(line.word(2), b"=") {
-        return put(out, b": a name is given so: let NAME = NUMBER");
+        return put_let_form(out);
     }
     let word = line.word(1);
     if name(word).is_none() {
@@ -176,7 +86,7 @@ fn put_bad_name(out: &mut Vec<u8>, line: &WordLine, at: usize) -> Result<(), NoM
 }
 
 /// The number of a word; 0 where it has none.
-fn number_at(alloc: Global, names: &[Given], line: &WordLine, at: usize) -> Result<u32, NoMemory> {
+fn number_at(alloc: Global, names: &Names, line: &WordLine, at: usize) -> Result<u32, NoMemory> {
     match value_of(alloc, names, line.word(at))? {
         Some(n) => Ok(n),
         None => Ok(0),
@@ -196,7 +106,7 @@ fn put_leaves(out: &mut Vec<u8>, access: &[u8], address: u32, len: u64) -> Resul
 fn put_few_frames(
     out: &mut Vec<u8>,
     alloc: Global,
-    names: &[Given],
+    names: &Names,
     line: &WordLine,
 ) -> Result<(), NoMemory> {
     let frames = number_at(alloc, names, line, 1)?;
@@ -212,7 +122,7 @@ fn put_few_frames(
 fn put_few_pages(
     out: &mut Vec<u8>,
     alloc: Global,
-    names: &[Given],
+    names: &Names,
     line: &WordLine,
 ) -> Result<(), NoMemory> {
     let min = number_at(alloc, names, line, 1)?;
@@ -237,7 +147,7 @@ fn bytes_in(word: &[u8]) -> u64 {
 fn put_joint(
     out: &mut Vec<u8>,
     alloc: Global,
-    names: &[Given],
+    names: &Names,
     line: &WordLine,
     keyword: &[u8],
     is_write: bool,
@@ -306,7 +216,7 @@ fn number_field(field: &'static [u8]) -> &'static [u8] {
 /// Whether the word of a field is good by itself.
 fn is_good(
     alloc: Global,
-    names: &[Given],
+    names: &Names,
     line: &WordLine,
     at: usize,
     field: &'static [u8],
@@ -326,7 +236,7 @@ fn is_good(
 fn put_bad_word(
     out: &mut Vec<u8>,
     alloc: Global,
-    names: &[Given],
+    names: &Names,
     line: &WordLine,
     at: usize,
     field: &'static [u8],
@@ -375,7 +285,7 @@ fn put_bad_bytes(out: &mut Vec<u8>, line: &WordLine, at: usize) -> Result<(), No
 fn put_bad_field(
     out: &mut Vec<u8>,
     alloc: Global,
-    names: &[Given],
+    names: &Names,
     line: &WordLine,
     keyword: &[u8],
     fields: &'static str,
@@ -399,7 +309,7 @@ fn put_bad_field(
 fn put_bad_place(
     out: &mut Vec<u8>,
     alloc: Global,
-    names: &[Given],
+    names: &Names,
     line: &WordLine,
     keyword: &[u8],
     at: usize,
@@ -433,7 +343,7 @@ fn verb_at(alloc: Global, line: &WordLine, keyword: &[u8], at: usize) -> Result<
 /// The first number behind a keyword that has no value.
 fn bad_number(
     alloc: Global,
-    names: &[Given],
+    names: &Names,
     line: &WordLine,
     keyword: &[u8],
 ) -> Result<Option<usize>, NoMemory> {
@@ -454,7 +364,7 @@ fn bad_number(
 /// The plain line of a line whose numbers have values.
 fn plain_line(
     alloc: Global,
-    names: &[Given],
+    names: &Names,
     line: &WordLine,
     keyword: &[u8],
 ) -> Result<Option<Vec<u8>>, NoMemory> {
@@ -479,16 +389,28 @@ fn bad_word(line: &[u8]) -> Option<usize>
     }
 }
 
+/// Whether the size of a section is the name of a file.
+fn is_file_name(keyword: &[u8], word: &[u8]) -> bool {
+    is_text(keyword, b"create") && name(word).is_some() && !is_known(word)
+}
+
 /// What is wrong with the words behind a keyword.
 fn put_bad_fields(
     out: &mut Vec<u8>,
     alloc: Global,
-    names: &[Given],
+    names: &Names,
     line: &WordLine,
     keyword: &[u8],
     fields: &'static str,
 ) -> Result<(), NoMemory> {
     if let Some(at) = bad_number(alloc, names, line, keyword)? {
+        if at == 2 && is_file_name(keyword, line.word(at)) {
+            return put_form(
+                out,
+                b"%a section of a file is written: createfile PID NAME FLAGS NAME|-",
+                &[Place(line.column_behind(at, 0))],
+            );
+        }
         return put_no_number(out, alloc, names, line, at);
     }
     let plain = match plain_line(alloc, names, line, keyword)? {
@@ -504,11 +426,21 @@ fn put_bad_fields(
     }
 }
 
+/// Whether the first word of a line is `machine`, or near to it.
+pub(crate) fn is_near_machine(alloc: Global, line: &[u8]) -> Result<bool, NoMemory> {
+    let words = WordLine::new(alloc, line)?;
+    let first = lowered(alloc, words.word(0))?;
+    match nearest_keyword(alloc, first.as_slice())? {
+        Some(near) => Ok(is_text(near, b"machine")),
+        None => Ok(false),
+    }
+}
+
 /// Why a line means nothing: ` column N: REASON` or `: REASON`.
 pub(crate) fn put_reason(
     out: &mut Vec<u8>,
     alloc: Global,
-    names: &[Given],
+    names: &Names,
     line: &[u8],
 ) -> Result<(), NoMemory> {
     let words = WordLine::new(alloc, line)?;
@@ -519,7 +451,7 @@ pub(crate) fn put_reason(
 fn put_line_reason(
     out: &mut Vec<u8>,
     alloc: Global,
-    names: &[Given],
+    names: &Names,
     len: usize,
     line: &WordLine,
 ) -> Result<(), NoMemory> {
@@ -537,12 +469,15 @@ fn put_line_reason(
 fn put_bad_line(
     out: &mut Vec<u8>,
     alloc: Global,
-    names: &[Given],
+    names: &Names,
     line: &WordLine,
     first: &[u8],
 ) -> Result<(), NoMemory> {
     if is_text(first, b"let") {
         return put_bad_let(out, alloc, names, line);
+    }
+    if is_text(line.word(1), b"=") {
+        return put_assignment(out, alloc, line);
     }
     let keyword = keyword_for(first);
     match fields_of(keyword) {

@@ -67,10 +67,18 @@ pub(crate) fn put(out: &mut Vec<u8>, text: &[u8]) -> Result<(), NoMemory> {
     Ok(())
 }
 
-/// A word of a written file, with `?` for each byte that a terminal may not show.
+/// The most bytes that are shown of a word.
+const MOST_SHOWN: usize = 64;
+
+/// A word of a written file, with `?` for each byte that a terminal may not show, up to a quote:
+/// what stands there became digits that nobody wrote. A long word is cut.
 fn put_word(out: &mut Vec<u8>, word: &[u8]) -> Result<(), NoMemory> {
-    for byte in word {
+    for (i, byte) in word.iter().enumerate() {
+        if i >= MOST_SHOWN {
+            return put(out, b"..");
+        }
         match *byte {
+            b'"' => return Ok(()),
             0x21..=0x7E => out.push(*byte)?,
             _ => out.push(b'?')?,
         }

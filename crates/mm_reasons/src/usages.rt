@@ -56,7 +56,7 @@ pub(crate) static CALLS: [&str; 13] = [
 ];
 
 /// Windows' names for numbers.
-pub(crate) static NAMES: [&str; 20] = [
+pub(crate) static NAMES: [&str; 21] = [
     "MEM_COMMIT",
     "MEM_RESERVE",
     "MEM_DECOMMIT",
@@ -77,7 +77,36 @@ pub(crate) static NAMES: [&str; 20] = [
     "FILE_MAP_WRITE",
     "FILE_MAP_READ",
     "FILE_MAP_ALL_ACCESS",
+    "WRITE_WATCH_FLAG_RESET",
 ];
+
+/// Windows' names for what this profile leaves out.
+static LEFT_OUT: [&str; 14] = [
+    "MEM_RESET",
+    "MEM_RESET_UNDO",
+    "MEM_TOP_DOWN",
+    "MEM_LARGE_PAGES",
+    "MEM_PHYSICAL",
+    "MEM_COALESCE_PLACEHOLDERS",
+    "PAGE_NOCACHE",
+    "PAGE_WRITECOMBINE",
+    "PAGE_TARGETS_INVALID",
+    "SEC_IMAGE",
+    "SEC_NOCACHE",
+    "SEC_LARGE_PAGES",
+    "SEC_WRITECOMBINE",
+    "FILE_MAP_EXECUTE",
+];
+
+/// Whether a word is a name of what this profile leaves out.
+pub(crate) fn is_left_out(word: &[u8]) -> bool {
+    for name in &LEFT_OUT {
+        if name.as_bytes() == word {
+            return true;
+        }
+    }
+    false
+}
 
 /// The fields behind a keyword.
 pub(crate) fn fields_of(keyword: &[u8]) -> Option<&'static str> {

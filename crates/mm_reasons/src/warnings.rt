@@ -1,6 +1,11 @@
-use crate::texts::Piece::Hex;
+use crate::lines::WordLine;
+use crate::texts::Piece::{Hex, Word};
 use crate::texts::{put, put_form};
-use mm_types::{Event, NoMemory};
+use crate::usages::{field_at, fields_of};
+use mm_names::{keyword_for, lowered};
+use mm_script::is_text;
+use mm_types::{Event, NoMemory, Pid};
+use std::alloc::Global;
 
 /// Why `mmsim` would answer an error to a protection, if it would.
 fn put_protection(out: &mut Vec<u8>, prot: u32) -> Result<(), NoMemory> {
@@ -89,9 +94,81 @@ fn put_view(out: &mut Vec<u8>, access: u32, offset: u32, addr: u32) -> Result<()
     Ok(())
 }
 
+/// The process that a line names as its own, if it names one.
+fn process_of(event: &Event) -> Option<Pid> {
+    match event {
+        Event::Alloc { pid, .. } => Some(*pid),
+        Event::Free { pid, .. } => Some(*pid),
+        Event::Protect { pid, .. } => Some(*pid),
+        Event::Query { pid, .. } => Some(*pid),
+        Event::Create { pid, .. } => Some(*pid),
+        Event::CreateFile { pid, .. } => Some(*pid),
+        Event::Open { pid, .. } => Some(*pid),
+        Event::Map { pid, .. } => Some(*pid),
+        Event::Unmap { pid, .. } => Some(*pid),
+        Event::Flush { pid, .. } => Some(*pid),
+        Event::Read { pid, .. } => Some(*pid),
+        Event::Write { pid, .. } => Some(*pid),
+        Event::Exec { pid, .. } => Some(*pid),
+        Event::Exit { pid, .. } => Some(*pid),
+        _ => None,
+    }
+}
+
+/// Whether a word is a decimal number that looks like a hexadecimal address: five digits or more,
+/// with three zeros at the end.
+fn looks_hexadecimal(word: &[u8]) -> bool {
+    match word {
+        [_, _, .., b'0', b'0', b'0'] => {
+            for byte in word {
+                if !byte.is_ascii_digit() {
+                    return false;
+                }
+            }
+            word[0] != b'0'
+        }
+        _ => false,
+    }
+}
+
+/// What is doubtful in how a line is written: a decimal address that looks hexadecimal.
+pub(crate) fn put_line_warning(
+    out: &mut Vec<u8>,
+    alloc: Global,
+    line: &[u8],
+) -> Result<(), NoMemory> {
+    let words = WordLine::new(alloc, line)?;
+    let first = lowered(alloc, words.word(0))?;
+    let Some(fields) = fields_of(keyword_for(first.as_slice())) else {
+        return Ok(());
+    };
+    for at in 1..words.count() {
+        let word = words.word(at);
+        let Some(field) = field_at(fields, at - 1) else {
+            return Ok(());
+        };
+        if is_text(field, b"ADDRESS") && looks_hexadecimal(word) {
+            return put_form(
+                out,
+                b"the address % is decimal; is 0x% meant?",
+                &[Word(word), Word(word)],
+            );
+        }
+    }
+    Ok(())
+}
+
 /// Why `mmsim` would answer an error to an event whatever came before; nothing where it may take
 /// it.
 pub(crate) fn put_warning(out: &mut Vec<u8>, event: &Event) -> Result<(), NoMemory> {
+    if let Some(Pid(0)) = process_of(event) {
+        return put(out, b"no process has the number 0; the first is 1");
+    }
+    put_call_warning(out, event)
+}
+
+/// Why it would answer an error to the numbers of a call.
+fn put_call_warning(out: &mut Vec<u8>, event: &Event) -> Result<(), NoMemory> {
     match event {
         Event::Alloc {
             size,

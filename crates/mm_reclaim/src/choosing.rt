@@ -5,11 +5,11 @@ ghost use Rattle.mm_move_rules.specs.{may_go as goes, IsOldest, IsVictim};
 ghost use Rattle.mm_frame_laws.specs.{NoneMayGo, takes_over as takes, BestBelow};
 ghost use Rattle.mm_reclaim.specs.{NoneIn};
 
-use mm_state_calls::Moving;
+use mm_state_calls::StateCalls;
 use mm_types::{Frame, Pid, Place, Vpn};
 
 /// Whether the page at a bound place may go: it is valid there, in a frame that is not pinned.
-fn may_go<T: Moving>(state: &T, pinned: Option<Frame>, place: Place) -> bool
+fn may_go<T: StateCalls>(state: &T, pinned: Option<Frame>, place: Place) -> bool
     requires { (T.shown state.now).bound place ≡ true }
     ensures { result ≡ goes (T.shown state.now).life pinned place }
 {
@@ -23,7 +23,7 @@ fn may_go<T: Moving>(state: &T, pinned: Option<Frame>, place: Place) -> bool
 }
 
 /// The oldest page of an open process that may go.
-fn oldest_to_go<T: Moving>(state: &T, pinned: Option<Frame>, pid: Pid) -> Option<Place>
+fn oldest_to_go<T: StateCalls>(state: &T, pinned: Option<Frame>, pid: Pid) -> Option<Place>
     requires { (T.shown state.now).is_open pid.0 ≡ true }
     ensures oldest { MatchOption result (NoneIn (T.shown state.now).life pinned pid.0)
         (λ v. IsOldest (T.shown state.now).life (T.shown state.now).ages pinned v) }
@@ -46,7 +46,7 @@ fn oldest_to_go<T: Moving>(state: &T, pinned: Option<Frame>, pid: Pid) -> Option
 
 /// Whether a process whose page may go takes over from the best so far.
 #[tactic(auto, using(crate::proofs::ChoreMoves::has_set))]
-fn takes_over<T: Moving>(state: &T, pid: Pid, best: Option<Place>) -> bool
+fn takes_over<T: StateCalls>(state: &T, pid: Pid, best: Option<Place>) -> bool
     requires open { (T.shown state.now).is_open pid.0 ≡ true }
     requires best { ForSome best (λ v. (T.shown state.now).is_open v.pid.0 ≡ true) }
     ensures { result ≡ takes (T.shown state.now).life pid.0 best }
@@ -59,7 +59,7 @@ fn takes_over<T: Moving>(state: &T, pid: Pid, best: Option<Place>) -> bool
 
 /// The first page to go of the processes up to a pid, from that of those below it. A process that
 /// cannot take over is not looked through.
-fn better<T: Moving>(
+fn better<T: StateCalls>(
     state: &T,
     pinned: Option<Frame>,
     pid: Pid,
@@ -85,7 +85,7 @@ fn better<T: Moving>(
 
 /// Whether no later process takes over from the best so far: its process is above its minimum.
 #[tactic(auto, using(crate::proofs::ChoreMoves::has_set, crate::proofs::ChoreMoves::settled))]
-fn is_settled<T: Moving>(state: &T, best: Option<Place>) -> bool
+fn is_settled<T: StateCalls>(state: &T, best: Option<Place>) -> bool
     requires open { ForSome best (λ v. (T.shown state.now).is_open v.pid.0 ≡ true) }
     ensures { result ≡ true → (n : ℕ) → takes (T.shown state.now).life n best ≡ false }
 {
@@ -98,7 +98,7 @@ fn is_settled<T: Moving>(state: &T, best: Option<Place>) -> bool
 /// The page that a search unmaps: the oldest that may go in the first process that holds one, those
 /// above their minimum first, then the lowest pid. None exactly where no page may go.
 #[tactic(auto, using(crate::proofs::ChoreMoves::begins))]
-pub fn victim<T: Moving>(state: &T, pinned: Option<Frame>) -> Option<Place>
+pub fn victim<T: StateCalls>(state: &T, pinned: Option<Frame>) -> Option<Place>
     ensures { MatchOption result (NoneMayGo (T.shown state.now).life pinned)
         (λ v. IsVictim (T.shown state.now).life (T.shown state.now).ages pinned v) }
 {

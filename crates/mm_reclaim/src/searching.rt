@@ -8,7 +8,7 @@ ghost use Rattle.mm_reclaim.specs.Searching.{IsFirstList, TookVictim};
 
 use crate::choosing::victim;
 use crate::seeking::{try_frame, write_frame};
-use mm_state_calls::Moving;
+use mm_state_calls::StateCalls;
 use mm_types::{Frame, Place, Record, Request};
 
 /// No frame was found: a device write failed in the search, none succeeded, and no page may go but
@@ -25,7 +25,7 @@ pub enum Found {
 }
 
 /// Whether zeroed, free and standby are empty.
-fn is_short<T: Moving>(state: &T) -> bool
+fn is_short<T: StateCalls>(state: &T) -> bool
     ensures { result ≡ lists_are_empty (T.shown state.now).life }
 {
     state.no_zeroed() && state.no_free() && state.no_standby()
@@ -52,7 +52,7 @@ fn is_of_modified(r: &Record) -> bool
 
 /// Whether a frame is modified.
 #[tactic(auto, using(crate::proofs::Writing::modified_is))]
-fn is_modified<T: Moving>(state: &T, f: Frame) -> bool
+fn is_modified<T: StateCalls>(state: &T, f: Frame) -> bool
     requires { f.0 < (T.shown state.now).life.machine.frames }
     ensures { result ≡ is_on f.0 (T.shown state.now).life.frames.modified }
 {
@@ -63,7 +63,7 @@ fn is_modified<T: Moving>(state: &T, f: Frame) -> bool
 /// How many modified frames can be written: all of them where a slot is free, else those that have
 /// a block.
 #[tactic(auto, using(crate::proofs::Writing::all_writable, crate::proofs::Writing::blocks_writable))]
-fn writable_count<T: Moving>(state: &T) -> u32
+fn writable_count<T: StateCalls>(state: &T) -> u32
     ensures { result ≡ length (writable_modified (T.shown state.now).life) }
 {
     if state.free_slots() != 0 {
@@ -75,7 +75,7 @@ fn writable_count<T: Moving>(state: &T) -> u32
 
 /// The first modified frame that can be written.
 #[tactic(auto, using(crate::proofs::Writing::all_writable, crate::proofs::Writing::blocks_writable))]
-pub(crate) fn first_writable<T: Moving>(state: &T) -> Option<Frame>
+pub(crate) fn first_writable<T: StateCalls>(state: &T) -> Option<Frame>
     ensures { option_map (λ f. f.0) result ≡ slice_get (writable_modified (T.shown state.now).life)
         0 }
 {
@@ -88,7 +88,7 @@ pub(crate) fn first_writable<T: Moving>(state: &T) -> Option<Frame>
 
 /// Each modified frame that can be written is, from the front on, until a write succeeds: a frame
 /// whose write fails goes to the list's end. Answers whether one did.
-fn walk<T: Moving>(state: &mut T, pinned: Option<Frame>) -> bool
+fn walk<T: StateCalls>(state: &mut T, pinned: Option<Frame>) -> bool
     requires begun { IsUnderWay (T.shown state.old) }
     requires short { lists_are_empty (T.shown state.old).life ≡ true }
     requires pinned { (f : Frame) → pinned ≡ Some f →
@@ -113,7 +113,7 @@ fn walk<T: Moving>(state: &mut T, pinned: Option<Frame>) -> bool
 
 /// A page goes, and its frame is written where it can be. Answers whether there is a frame.
 #[tactic(auto, using(crate::proofs::Phases::may_unmap, crate::proofs::Phases::begun_after, crate::proofs::Phases::low_after))]
-fn turn<T: Moving>(state: &mut T, place: Place, f: Frame) -> bool
+fn turn<T: StateCalls>(state: &mut T, place: Place, f: Frame) -> bool
     requires begun { IsUnderWay (T.shown state.old) }
     requires short { lists_are_empty (T.shown state.old).life ≡ true }
     requires there { (T.shown state.old).life.valid place ≡ Some f }
@@ -132,7 +132,7 @@ fn turn<T: Moving>(state: &mut T, place: Place, f: Frame) -> bool
 
 /// The frame of a page that may go.
 #[tactic(auto, using(crate::proofs::Phases::goes_bound, crate::proofs::Phases::goes_some))]
-fn frame_of<T: Moving>(state: &T, pinned: Option<Frame>, place: Place) -> Frame
+fn frame_of<T: StateCalls>(state: &T, pinned: Option<Frame>, place: Place) -> Frame
     requires { goes (T.shown state.now).life pinned place ≡ true }
     ensures { (T.shown state.now).life.valid place ≡ Some result }
 {
@@ -143,7 +143,7 @@ fn frame_of<T: Moving>(state: &T, pinned: Option<Frame>, place: Place) -> Frame
 }
 
 /// The first list that has a frame.
-fn first_list<T: Moving>(state: &T) -> Found
+fn first_list<T: StateCalls>(state: &T) -> Found
     requires { lists_are_empty (T.shown state.now).life ≡ false }
     ensures { IsFirstList result (T.shown state.now).life }
 {
@@ -157,7 +157,7 @@ fn first_list<T: Moving>(state: &T) -> Found
 }
 
 /// The modified list and then pages are gone through until there is a frame.
-fn search<T: Moving>(state: &mut T, pinned: Option<Frame>) -> bool
+fn search<T: StateCalls>(state: &mut T, pinned: Option<Frame>) -> bool
     requires begun { IsUnderWay (T.shown state.old) }
     requires pinned { (f : Frame) → pinned ≡ Some f →
         1 ≤ (record_at (T.shown state.old).life.frames f.0).shares }
@@ -190,7 +190,7 @@ fn search<T: Moving>(state: &mut T, pinned: Option<Frame>) -> bool
 /// The modified frames that can be written are, from the first on, until a write succeeds; then
 /// pages go, the oldest of the first process each time, and a frame that this leaves modified is
 /// written where it can be. Takes no memory.
-pub fn find_frame<T: Moving>(state: &mut T, pinned: Option<Frame>) -> Result<Found, NoFrame>
+pub fn find_frame<T: StateCalls>(state: &mut T, pinned: Option<Frame>) -> Result<Found, NoFrame>
     requires access { is_access (T.shown state.old).life.kind ≡ true }
     requires few { length (T.shown state.old).life.flight ≤ (T.shown state.old).life.machine.depth }
     requires pinned { (f : Frame) → pinned ≡ Some f →

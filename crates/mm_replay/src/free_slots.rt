@@ -64,12 +64,12 @@ impl SlotTree {
     }
 
     /// Gives back a slot that was taken.
-    fn give(&mut self, slot: u32)
+    fn put_back(&mut self, slot: u32)
         requires { slice_get self.old.free slot ≡ Some false }
         ensures { self.new.free ≡ slice_set self.old.free slot true }
     {
         if let Some(slots) = &mut self.slots {
-            slots.give(Slot(slot));
+            slots.put_back(Slot(slot));
         }
     }
 
@@ -192,7 +192,7 @@ impl SlotMap {
     }
 
     /// A slot, if any, is free again.
-    pub(crate) fn give(&mut self, slot: Option<u32>)
+    pub(crate) fn put_back(&mut self, slot: Option<u32>)
         ensures { self.new ≡ freed self.old slot }
     {
         let Some(slot) = slot else {
@@ -201,9 +201,9 @@ impl SlotMap {
         if is_taken(&self.free, slot) {
             set_at(&mut self.free, slot, true);
             match self.lowest {
-                Some(lowest) if lowest < slot => self.others.give(slot),
+                Some(lowest) if lowest < slot => self.others.put_back(slot),
                 Some(lowest) => {
-                    self.others.give(lowest);
+                    self.others.put_back(lowest);
                     self.lowest = Some(slot);
                 }
                 None => self.lowest = Some(slot),

@@ -196,9 +196,9 @@ impl State {
             Held::Frame(frame) => {
                 let slot = slot_after_soil(&self.table.record(frame.0));
                 self.table.drop_page(frame.0);
-                self.free_slots.give(slot);
+                self.free_slots.put_back(slot);
             }
-            Held::Slot(slot) => self.free_slots.give(Some(slot.0)),
+            Held::Slot(slot) => self.free_slots.put_back(Some(slot.0)),
             Held::Block(_) | Held::Zero | Held::Dead => {}
         }
         self.keys.remove(key);
@@ -258,7 +258,7 @@ impl State {
         let r = self.table.record(frame.0);
         let request = Request::None;
         self.table.end(frame.0, Record { request, ..r });
-        self.free_slots.give(slot_after_read(&r));
+        self.free_slots.put_back(slot_after_read(&r));
         self.flight.end(frame.0);
     }
 
@@ -269,7 +269,7 @@ impl State {
     {
         let r = self.table.record(frame.0);
         self.table.bad(frame.0);
-        self.free_slots.give(slot_after_read(&r));
+        self.free_slots.put_back(slot_after_read(&r));
         self.flight.end(frame.0);
         self.send_home(r.owner, r.backing);
     }
@@ -280,7 +280,7 @@ impl State {
     {
         let r = self.table.record(frame.0);
         self.table.end(frame.0, write_done(r));
-        self.free_slots.give(slot_after_wrote(&r));
+        self.free_slots.put_back(slot_after_wrote(&r));
         self.flight.end(frame.0);
     }
 
@@ -290,7 +290,7 @@ impl State {
     {
         let r = self.table.record(frame.0);
         self.table.end(frame.0, write_lost(r));
-        self.free_slots.give(slot_of(r.backing));
+        self.free_slots.put_back(slot_of(r.backing));
         self.flight.end(frame.0);
     }
 
@@ -329,7 +329,7 @@ impl State {
     {
         let slot = slot_after_soil(&self.table.record(frame.0));
         self.table.soil(frame.0);
-        self.free_slots.give(slot);
+        self.free_slots.put_back(slot);
     }
 
     fn write(&mut self, frame: Frame, stored: Stored)

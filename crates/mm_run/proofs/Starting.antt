@@ -6,7 +6,7 @@ use Rattle.mm_types.specs.{MachineOf, Key, Loan, Both}
 use Rattle.mm_move_rules.specs.{IsLegal, unstarted, Log, Grew, AreMoves, spelled_moves, Idle, wait_of}
 use Rattle.std.specs.Borrow.{GName}
 use Rattle.mm_devices.specs.{DeviceOf, NamedCalls, NoneLogged, device_with, empty_block}
-use Rattle.mm_devices.specs.declared.Blocks.{Ghosts as DeviceGhosts}
+use Rattle.mm_devices.specs.declared.BlockDevice.{Ghosts as DeviceGhosts}
 use Rattle.mm_io.specs.declared.Sink.{Ghosts as SinkGhosts}
 use Rattle.mm_world.specs.{Page, first_world}
 use Rattle.mm_world.specs.World.{World}

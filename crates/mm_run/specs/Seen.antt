@@ -3,8 +3,8 @@
 use Rattle.mm_types.specs.{Text}
 use Rattle.mm_io.specs.declared.Source.{Ghosts as SourceGhosts}
 use Rattle.mm_io.specs.declared.Sink.{Ghosts as SinkGhosts}
-use Rattle.mm_devices.specs.declared.Blocks.{Ghosts as DeviceGhosts}
-use Rattle.mm_store.specs.{Ghosts as PagesGhosts}
+use Rattle.mm_devices.specs.declared.BlockDevice.{Ghosts as DeviceGhosts}
+use Rattle.mm_store.specs.{Ghosts as PageStoreGhosts}
 use Rattle.mm_dispatch.specs.{World, line_number, loans, scene}
 use Rattle.mm_run.specs.Scenes.{Outset, Running, outset}
 use Rattle.mm_run.specs.Ends.{DeviceLeft, Left, device_left, left_with}
@@ -46,7 +46,7 @@ input_seen s source = record {
 abbrev pub output_seen : {O : Type 0} → SinkGhosts O → O → Output
 output_seen o out = record { took = o.taken out; faults = o.faults out }
 
-module _ {G : Type 0} {g : PagesGhosts G} where
+module _ {G : Type 0} {g : PageStoreGhosts G} where
   abbrev pub world_seen : World G g → WorldSeen
   world_seen w = record {
     unpaged = g.unpaged;

@@ -18,15 +18,15 @@ use crate::decisions::decide;
 use crate::endings::Ending;
 use crate::machines::open_devices;
 use crate::top::{put_number, write_both};
-use mm_devices::{Blocks, Injected};
+use mm_devices::{BlockDevice, Injected};
 use mm_dispatch::World;
-use mm_io::Sink;
 use mm_generate::script;
+use mm_io::Sink;
 use mm_log_writer::Recorder;
-use mm_state_calls::Moving;
-use mm_pager::Paged;
-use mm_store::FlushesMoves;
+use mm_pager::Pager;
 use mm_state::State;
+use mm_state_calls::StateCalls;
+use mm_store::FlushesMoves;
 use mm_text::LineBuf;
 use mm_types::{Answer, Event, Machine};
 use std::alloc::Global;
@@ -123,7 +123,7 @@ fn decide_events<G: FlushesMoves>(
 }
 
 /// Decides all events over the world of a state that starts, and gives the state back.
-fn decide_over<T: Moving>(
+fn decide_over<T: StateCalls>(
     alloc: Global,
     machine: Machine,
     events: &[Event],
@@ -138,13 +138,13 @@ fn decide_over<T: Moving>(
         AccountsMoves result.0 ⊥ o.log.faults (T.shown result.1).log.faults }
     ensures loans { T.loans result.1 ≡ T.loans state }
 {
-    let mut world = World::new(alloc, machine, Paged::over(state));
+    let mut world = World::new(alloc, machine, Pager::over(state));
     let decided = decide_events(alloc, machine, events, &mut world);
     (decided, world.finish().finish())
 }
 
 /// Decides all events over devices that were opened for their machine.
-fn run_events<M: Sink, P: Blocks, F: Blocks>(
+fn run_events<M: Sink, P: BlockDevice, F: BlockDevice>(
     alloc: Global,
     machine: Machine,
     events: &[Event],
@@ -155,11 +155,11 @@ fn run_events<M: Sink, P: Blocks, F: Blocks>(
     requires later { AreLater events.now }
     requires few { length events.now < 1000000 }
     requires opened { AreOpened machine
-        (device_seen P.Blocks paging.old) (device_seen F.Blocks files.old) }
+        (device_seen P.BlockDevice paging.old) (device_seen F.BlockDevice files.old) }
     ensures came { (p f : ℕ) → p ≤ P.faults paging.old → f ≤ F.faults files.old → BatchRan
         (NotBegun (outset p f (M.taken moves.old) (M.given moves.old) (M.faults moves.old)))
         (event.Machine machine ∷ events.now) result
-        (left_seen M.Sink P.Blocks F.Blocks moves.new paging.new files.new) }
+        (left_seen M.Sink P.BlockDevice F.BlockDevice moves.new paging.new files.new) }
     ensures faults { AccountsMoves result ⊥ (M.faults moves.old) (M.faults moves.new) }
 {
     let made = State::new(
@@ -188,7 +188,7 @@ fn run_events<M: Sink, P: Blocks, F: Blocks>(
 }
 
 /// Opens the devices of a generated script's machine, and decides its events over them.
-fn decide_script<M: Sink, P: Blocks, F: Blocks>(
+fn decide_script<M: Sink, P: BlockDevice, F: BlockDevice>(
     alloc: Global,
     seed: u64,
     count: u32,
@@ -198,8 +198,8 @@ fn decide_script<M: Sink, P: Blocks, F: Blocks>(
 ) -> Result<Tally, Ending>
     requires few { count ≤ 100000 }
     ensures ends { BatchEnds (script_of seed count) result
-        (left_seen M.Sink P.Blocks F.Blocks moves.old paging.old files.old)
-        (left_seen M.Sink P.Blocks F.Blocks moves.new paging.new files.new) }
+        (left_seen M.Sink P.BlockDevice F.BlockDevice moves.old paging.old files.old)
+        (left_seen M.Sink P.BlockDevice F.BlockDevice moves.new paging.new files.new) }
 {
     let events = match script(alloc, seed, count) {
         Ok(events) => events,
@@ -236,7 +236,7 @@ fn spell_tally(tally: Tally) -> LineBuf
 }
 
 /// Runs a generated script: decides its events, gives on their moves, and then the four lines.
-pub(crate) fn bulk<O: Sink, M: Sink, P: Blocks, F: Blocks>(
+pub(crate) fn bulk<O: Sink, M: Sink, P: BlockDevice, F: BlockDevice>(
     alloc: Global,
     seed: u64,
     count: u32,
@@ -248,12 +248,12 @@ pub(crate) fn bulk<O: Sink, M: Sink, P: Blocks, F: Blocks>(
     requires few { count ≤ 100000 }
     ensures ran { (left : Option (List ℕ)) → BulkRan
         (around left (O.taken out.old) (O.given out.old)
-        (left_seen M.Sink P.Blocks F.Blocks moves.old paging.old files.old))
+        (left_seen M.Sink P.BlockDevice F.BlockDevice moves.old paging.old files.old))
         (around left (O.taken out.new) (O.given out.new)
-        (left_seen M.Sink P.Blocks F.Blocks moves.new paging.new files.new))
+        (left_seen M.Sink P.BlockDevice F.BlockDevice moves.new paging.new files.new))
         (script_of seed count) result }
     ensures faults { (s : ℕ) → IsAccounted result
-        (open_failed P.Blocks F.Blocks paging.old paging.new files.old files.new)
+        (open_failed P.BlockDevice F.BlockDevice paging.old paging.new files.old files.new)
         (fault_counts_with s (O.faults out.old) (M.faults moves.old))
         (fault_counts_with s (O.faults out.new) (M.faults moves.new)) }
 {

@@ -8,14 +8,14 @@ use crate::answers::Kept;
 use crate::decisions::{decide_rest, next_line, tell};
 use crate::endings::Ending;
 use crate::readings::read_first;
-use mm_devices::{Blocks, Injected};
+use mm_devices::{BlockDevice, Injected};
 use mm_dispatch::World;
 use mm_io::{Held, Sink, Source};
 use mm_log_writer::Recorder;
-use mm_state_calls::Moving;
-use mm_pager::Paged;
-use mm_store::FlushesMoves;
+use mm_pager::Pager;
 use mm_state::State;
+use mm_state_calls::StateCalls;
+use mm_store::FlushesMoves;
 use mm_types::{Answer, Event, Machine, OpenFault};
 use std::alloc::Global;
 
@@ -31,16 +31,16 @@ fn not_opened(fault: OpenFault) -> Ending
 }
 
 /// Opens both devices of a machine, the paging device first.
-pub(crate) fn open_devices<P: Blocks, F: Blocks>(
+pub(crate) fn open_devices<P: BlockDevice, F: BlockDevice>(
     machine: Machine,
     paging: &mut P,
     files: &mut F,
 ) -> Result<(), Ending>
     ensures opened { OnOk result
-        (AreOpened machine (device_seen P.Blocks paging.new) (device_seen F.Blocks files.new)) }
+        (AreOpened machine (device_seen P.BlockDevice paging.new) (device_seen F.BlockDevice files.new)) }
     ensures ends { IfErr result (λ e. (e ≡ Ending.NoMemory) ⊎ (e ≡ Ending.SetupFault)) }
     ensures blame { IfErr result (λ e. e ≡ Ending.SetupFault →
-        open_failed P.Blocks F.Blocks paging.old paging.new files.old files.new) }
+        open_failed P.BlockDevice F.BlockDevice paging.old paging.new files.old files.new) }
     ensures paging_later { P.faults paging.old ≤ P.faults paging.new }
     ensures files_later { F.faults files.old ≤ F.faults files.new }
 {
@@ -91,7 +91,7 @@ fn answer_all<G: FlushesMoves, S: Source, O: Sink>(
 }
 
 /// Decides the lines over the world of a state that starts, and gives the state back.
-fn answer_over<T: Moving, S: Source, O: Sink>(
+fn answer_over<T: StateCalls, S: Source, O: Sink>(
     alloc: Global,
     held: &mut Held,
     len: usize,
@@ -119,13 +119,13 @@ fn answer_over<T: Moving, S: Source, O: Sink>(
         (O.taken out.new) (T.shown result.1).log.given (T.shown result.1).log.bytes }
     ensures loans { T.loans result.1 ≡ T.loans state }
 {
-    let mut world = World::new(alloc, machine, Paged::over(state));
+    let mut world = World::new(alloc, machine, Pager::over(state));
     let ending = answer_all(alloc, held, len, machine, &mut world, kept, source, out);
     (ending, world.finish().finish())
 }
 
 /// Runs a machine over devices that were opened for it.
-fn run_machine<S: Source, O: Sink, M: Sink, P: Blocks, F: Blocks>(
+fn run_machine<S: Source, O: Sink, M: Sink, P: BlockDevice, F: BlockDevice>(
     alloc: Global,
     held: &mut Held,
     len: usize,
@@ -140,13 +140,13 @@ fn run_machine<S: Source, O: Sink, M: Sink, P: Blocks, F: Blocks>(
     requires line { HoldsMachine held.old len machine }
     requires room { length kept.old + 256 ≤ 65536 }
     requires opened { AreOpened machine
-        (device_seen P.Blocks paging.old) (device_seen F.Blocks files.old) }
+        (device_seen P.BlockDevice paging.old) (device_seen F.BlockDevice files.old) }
     ensures came { (p f : ℕ) → p ≤ P.faults paging.old → f ≤ F.faults files.old → Comes
         (outside_seen S.Source O.Sink source.old out.old kept.old)
         (outside_seen S.Source O.Sink source.new out.new kept.new)
         (stand held.old 0
         (NotBegun (outset p f (M.taken moves.old) (M.given moves.old) (M.faults moves.old))))
-        result (left_seen M.Sink P.Blocks F.Blocks moves.new paging.new files.new) }
+        result (left_seen M.Sink P.BlockDevice F.BlockDevice moves.new paging.new files.new) }
     ensures faults { IsBlamed result ⊥
         (counts_seen S.Source O.Sink M.Sink source.old out.old moves.old)
         (counts_seen S.Source O.Sink M.Sink source.new out.new moves.new) }
@@ -182,7 +182,7 @@ fn run_machine<S: Source, O: Sink, M: Sink, P: Blocks, F: Blocks>(
 
 /// Decides the lines of a source, and gives on or keeps their answers. Where the words of the run
 /// are no form, it comes to usage.
-pub(crate) fn decide_all<S: Source, O: Sink, M: Sink, P: Blocks, F: Blocks>(
+pub(crate) fn decide_all<S: Source, O: Sink, M: Sink, P: BlockDevice, F: BlockDevice>(
     alloc: Global,
     is_form: bool,
     kept: &mut Kept,
@@ -194,9 +194,9 @@ pub(crate) fn decide_all<S: Source, O: Sink, M: Sink, P: Blocks, F: Blocks>(
 ) -> Ending
     requires room { length kept.old + 256 ≤ 65536 }
     ensures ends { ComesTo []
-        (setting S.Source O.Sink M.Sink P.Blocks F.Blocks
+        (setting S.Source O.Sink M.Sink P.BlockDevice F.BlockDevice
         source.old out.old kept.old moves.old paging.old files.old)
-        (setting S.Source O.Sink M.Sink P.Blocks F.Blocks
+        (setting S.Source O.Sink M.Sink P.BlockDevice F.BlockDevice
         source.new out.new kept.new moves.new paging.new files.new) result }
     ensures form { is_form ≡ true → result ≢ Ending.Usage }
     ensures no_form { (is_form ≡ true → ⊥) → result ≡ Ending.Usage }

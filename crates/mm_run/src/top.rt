@@ -10,7 +10,7 @@ use crate::bulk::bulk;
 use crate::endings::Ending;
 use crate::forms::{WordsForm, words_form};
 use crate::machines::decide_all;
-use mm_devices::Blocks;
+use mm_devices::BlockDevice;
 use mm_io::{Sink, Source, write_all};
 use mm_text::{LineBuf, put_decimal};
 use mm_types::{Failed, NoMemory};
@@ -100,7 +100,7 @@ fn close<O: Sink, M: Sink>(moves: &mut M, kept: &Kept, out: &mut O, ending: Endi
 }
 
 /// Runs a script, or says the usage.
-fn run_lines<S: Source, O: Sink, M: Sink, P: Blocks, F: Blocks>(
+fn run_lines<S: Source, O: Sink, M: Sink, P: BlockDevice, F: BlockDevice>(
     alloc: Global,
     is_form: bool,
     source: &mut S,
@@ -110,13 +110,13 @@ fn run_lines<S: Source, O: Sink, M: Sink, P: Blocks, F: Blocks>(
     files: &mut F,
 ) -> u8
     ensures ran { RanOrRefused
-        (seen S.Source O.Sink M.Sink P.Blocks F.Blocks
+        (seen S.Source O.Sink M.Sink P.BlockDevice F.BlockDevice
         source.old out.old moves.old paging.old files.old)
-        (seen S.Source O.Sink M.Sink P.Blocks F.Blocks
+        (seen S.Source O.Sink M.Sink P.BlockDevice F.BlockDevice
         source.new out.new moves.new paging.new files.new)
         (is_form ≡ true) result }
     ensures faults { IsAccounted result
-        (open_failed P.Blocks F.Blocks paging.old paging.new files.old files.new)
+        (open_failed P.BlockDevice F.BlockDevice paging.old paging.new files.old files.new)
         (counts_seen S.Source O.Sink M.Sink source.old out.old moves.old)
         (counts_seen S.Source O.Sink M.Sink source.new out.new moves.new) }
     ensures idle { S.idle source.new ≤ S.idle source.old + S.last_idle source.new }
@@ -143,7 +143,7 @@ fn run_lines<S: Source, O: Sink, M: Sink, P: Blocks, F: Blocks>(
 /// An answer is given on only after its moves were: the answers of lines are kept, and before more
 /// is read, when their room is full and at the end `moves` is flushed, then they are written to
 /// `out`, then `out` is flushed. So with status 6 the answers since the last flush do not stand.
-pub fn run<S: Source, O: Sink, M: Sink, P: Blocks, F: Blocks>(
+pub fn run<S: Source, O: Sink, M: Sink, P: BlockDevice, F: BlockDevice>(
     alloc: Global,
     words: &[String],
     source: &mut S,
@@ -156,16 +156,16 @@ pub fn run<S: Source, O: Sink, M: Sink, P: Blocks, F: Blocks>(
     // written, and what is left on devices. Or memory was refused as the words were read, before
     // anything else: status 1, and everything stands as it stood.
     ensures ran { IsNoBulk words.now → RanOrRefused
-        (seen S.Source O.Sink M.Sink P.Blocks F.Blocks
+        (seen S.Source O.Sink M.Sink P.BlockDevice F.BlockDevice
         source.old out.old moves.old paging.old files.old)
-        (seen S.Source O.Sink M.Sink P.Blocks F.Blocks
+        (seen S.Source O.Sink M.Sink P.BlockDevice F.BlockDevice
         source.new out.new moves.new paging.new files.new)
         (IsRunForm words.now) result }
     // Of a generated script, the same of its events.
     ensures bulk { (seed count : ℕ) → IsBulk words.now seed count → BulkRanOrRefused
-        (seen S.Source O.Sink M.Sink P.Blocks F.Blocks
+        (seen S.Source O.Sink M.Sink P.BlockDevice F.BlockDevice
         source.old out.old moves.old paging.old files.old)
-        (seen S.Source O.Sink M.Sink P.Blocks F.Blocks
+        (seen S.Source O.Sink M.Sink P.BlockDevice F.BlockDevice
         source.new out.new moves.new paging.new files.new)
         (script_of seed count) result }
     ensures unread { (seed count : ℕ) → IsBulk words.now seed count → source.new ≡ source.old }
@@ -174,9 +174,9 @@ pub fn run<S: Source, O: Sink, M: Sink, P: Blocks, F: Blocks>(
     // memory or the outside fails.
     ensures exact { (text : List ℕ) (lines : List (List ℕ)) (e : Ending) →
         S.left source.old ≡ Some text → IsRunForm words.now → IsScriptOf text 0 lines e → IsComplete
-        (seen S.Source O.Sink M.Sink P.Blocks F.Blocks
+        (seen S.Source O.Sink M.Sink P.BlockDevice F.BlockDevice
         source.old out.old moves.old paging.old files.old)
-        (seen S.Source O.Sink M.Sink P.Blocks F.Blocks
+        (seen S.Source O.Sink M.Sink P.BlockDevice F.BlockDevice
         source.new out.new moves.new paging.new files.new)
         (IsRunForm words.now) lines e result ⊎ IsFault result }
     ensures usage { (IsRunForm words.now → ⊥) → IsNoBulk words.now → (result ≡ 2) ⊎ IsFault result }
@@ -185,7 +185,7 @@ pub fn run<S: Source, O: Sink, M: Sink, P: Blocks, F: Blocks>(
     // A read that took no byte is the last one.
     ensures idle { S.idle source.new ≤ S.idle source.old + S.last_idle source.new }
     ensures faults { IsAccounted result
-        (open_failed P.Blocks F.Blocks paging.old paging.new files.old files.new)
+        (open_failed P.BlockDevice F.BlockDevice paging.old paging.new files.old files.new)
         (counts_seen S.Source O.Sink M.Sink source.old out.old moves.old)
         (counts_seen S.Source O.Sink M.Sink source.new out.new moves.new) }
 {

@@ -14,9 +14,9 @@ use crate::states::{FrameState, state_text};
 use crate::words::{
     put_counted, put_key, put_kind, put_number, put_numbered, put_place, put_words,
 };
+use mm_log_writer::spell;
 use mm_move_classes::{is_access, is_read, is_thread, is_touch, is_writer, touches, trims};
 use mm_move_rules::ResidentSet;
-use mm_log_writer::spell;
 use mm_replay::{FrameList, Life};
 use mm_text::LineBuf;
 use mm_types::{Block, Frame, Held, Key, Move, NoMemory, Pid, Place, Request, Slot};

@@ -4,8 +4,8 @@ use Rattle.std.specs.Prelude.{Result, Ok}
 use Rattle.mm_types.specs.{Text, Move}
 use Rattle.mm_log_walk.specs.{Said, said_by, Answers, RestOf, HasLines, FileFault}
 use Rattle.mm_move_rules.specs.{unstarted}
-use Rattle.mm_show.specs.{PageOf, form_said, form_why, sums_said, FileIs, sums_text, sum_rest, SumTeller, Form, page_rest, PageTeller}
-use Rattle.mm_show.specs.Showing.{page_said, whole_page_text}
+use Rattle.mm_show.specs.{PageOf, form_said, form_why, sums_said, FileIs, sums_text, sum_rest, SumTeller, Form, page_rest, PageTeller, page_said}
+use Rattle.mm_show.specs.{whole_page_text}
 
 abbrev read_as : Option (List Text) → Result (Option (List Text)) FileFault
 read_as lines = Ok lines

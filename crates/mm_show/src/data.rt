@@ -7,9 +7,9 @@ ghost use Rattle.mm_show.specs.Data.{classed_data};
 ghost use Rattle.mm_show.specs.PageRest.{page_rest};
 ghost use Rattle.mm_log_walk.specs.{no_why};
 
+use mm_log_walk::{Classed, Classifier, Teller};
 use mm_move_classes::{put_mark, put_move};
 use mm_replay::Life;
-use mm_log_walk::{Classed, Classifier, Teller};
 use mm_text::LineBuf;
 use mm_types::{Move, NoMemory};
 use std::alloc::Global;

@@ -13,10 +13,10 @@ ghost use Rattle.mm_show.specs.Counted.{of_class, of_kind, AreFew};
 ghost use Rattle.mm_sentences.specs.{why_text};
 
 use crate::words::CLASSES;
+use mm_log_walk::{Classed, Classifier, Teller};
 use mm_move_classes::{Class, code, kind_code};
 use mm_replay::Life;
 use mm_sentences::put_why;
-use mm_log_walk::{Classed, Classifier, Teller};
 use mm_text::{LineBuf, put_decimal};
 use mm_types::{Move, NoMemory};
 use std::alloc::Global;

@@ -101,7 +101,7 @@ impl Slots {
     }
 
     /// Gives back a slot that was taken.
-    pub fn give(&mut self, s: Slot)
+    pub fn put_back(&mut self, s: Slot)
         requires { slice_get self.old.free s.0 ≡ Some false }
         ensures { self.new ≡ record self.old { free = slice_set self.old.free s.0 true } }
     {

@@ -4,7 +4,7 @@ use crate::states::State;
 use crate::tallies::Tallies;
 use mm_devices::Inject;
 use mm_log_writer::Moves;
-use mm_state_calls::Moving;
+use mm_state_calls::StateCalls;
 use mm_types::{
     Area, Backing, Block, Counts, Device, Direction, Failed, Frame, GrowFault, Held, Key, LineKind,
     Machine, Move, NoMemory, OpenFault, Pid, Place, Record, Stored, Tid, Vpn, Wait,
@@ -12,7 +12,7 @@ use mm_types::{
 
 // A move is made in the parts, and noted; where it stands for a device call, that call is made and
 // counted between the two.
-impl<P: Inject, F: Inject, M: Moves> Moving for State<P, F, M> {
+impl<P: Inject, F: Inject, M: Moves> StateCalls for State<P, F, M> {
     ghost use Rattle.mm_state.specs.StateShown as state;
     ghost use Rattle.mm_state.specs.Holding as holding;
 
@@ -105,14 +105,14 @@ impl<P: Inject, F: Inject, M: Moves> Moving for State<P, F, M> {
         self.moves.note(Move::Clear(f));
     }
 
-    fn steal(&mut self) {
+    fn repurpose(&mut self) {
         let f = first_standby(&self.parts);
-        self.parts.steal();
+        self.parts.repurpose();
         self.moves.note(Move::Steal(f));
     }
 
-    fn give(&mut self, key: Key) -> Frame {
-        let f = self.parts.give(key);
+    fn assign(&mut self, key: Key) -> Frame {
+        let f = self.parts.assign(key);
         self.told.search();
         self.moves.note(Move::Give(f, key));
         f
@@ -128,8 +128,8 @@ impl<P: Inject, F: Inject, M: Moves> Moving for State<P, F, M> {
         self.moves.note(Move::Unmap(place));
     }
 
-    fn soil(&mut self, f: Frame) {
-        self.parts.soil(f);
+    fn set_dirty(&mut self, f: Frame) {
+        self.parts.set_dirty(f);
         self.moves.note(Move::Soil(f));
     }
 

@@ -6,4 +6,4 @@ pub use Shown.{WrotePage, asked_to_grow, backing_of_frame, moved, moved_with_cal
 pub use Shown.{names_after_give, names_after_map, written_if}
 pub use Doing.{DoesMoves, IsFlightOf, Searched, walk_of}
 pub use Holds.{StateHolds}
-pub use declared.moving.Moving.{Ghosts}
+pub use declared.state_calls.StateCalls.{Ghosts}

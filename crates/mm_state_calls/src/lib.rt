@@ -1,6 +1,6 @@
 //! The calls of a machine's joined state, as the store of pages above it needs them.
 #![tactic(auto)]
 
-mod moving;
+mod state_calls;
 
-pub use moving::Moving;
+pub use state_calls::StateCalls;

@@ -42,4 +42,4 @@ pub use Passing.{FileMade, Notes, NotesIn, Passes, PassesIn, WritesFile, last_wr
 pub use declared.outcomes.Done.{Done}
 pub use declared.outcomes.Need.{Need}
 pub use declared.outcomes.Start.{Start}
-pub use declared.pages.Pages.{Ghosts}
+pub use declared.page_store.PageStore.{Ghosts}

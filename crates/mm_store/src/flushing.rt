@@ -1,11 +1,11 @@
 ghost use Rattle.std.specs.Prelude.{◌≡◌};
 ghost use Rattle.mm_move_rules.specs.{Flushed};
 
-use crate::Pages;
+use crate::PageStore;
 use mm_types::Failed;
 
 /// A store of pages that gives on the moves it has noted when it is asked to.
-pub trait FlushesMoves: Pages {
+pub trait FlushesMoves: PageStore {
     /// Gives on the moves that were noted. Nothing else changes but the log's count of faults,
     /// where that fails.
     fn flush_moves(&mut self) -> Result<(), Failed>

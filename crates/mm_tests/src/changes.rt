@@ -13,9 +13,9 @@ use crate::behind::{write_block, write_frame, write_slot};
 use mm_devices::Inject;
 use mm_dispatch::World;
 use mm_log_writer::Moves;
-use mm_state_calls::Moving;
-use mm_pager::Paged;
+use mm_pager::Pager;
 use mm_state::State;
+use mm_state_calls::StateCalls;
 use mm_types::{Backing, Block, Frame, Request, Slot};
 
 /// What is changed behind a layer: the first byte of frame 0, or all bytes of slot 0 or block 0.
@@ -30,7 +30,7 @@ pub(crate) enum Change {
 const BYTE: u8 = 0x77;
 
 /// Frame 0, where it holds a modified page that is in no request.
-fn soiled_frame<T: Moving>(state: &T) -> Option<Frame>
+fn soiled_frame<T: StateCalls>(state: &T) -> Option<Frame>
     ensures owned { IfSome result
         (λ f. IsSome (record_at (T.shown state.now).life.frames f.0).owner) }
     ensures soiled { IfSome result (λ f. IsSoiled (record_at (T.shown state.now).life.frames f.0)) }
@@ -47,7 +47,7 @@ fn soiled_frame<T: Moving>(state: &T) -> Option<Frame>
 }
 
 /// Whether no frame has a slot or a block behind it.
-fn none_backed<T: Moving>(state: &T) -> bool
+fn none_backed<T: StateCalls>(state: &T) -> bool
     ensures { OnTrue result (NoneBacked (T.shown state.now).life) }
 {
     for f in 0..state.machine().frames() {
@@ -114,7 +114,7 @@ fn change_state<P: Inject, F: Inject, M: Moves>(state: &mut State<P, F, M>, chan
 
 /// The same behind the store.
 fn change_store<P: Inject, F: Inject, M: Moves>(
-    store: &mut Paged<State<P, F, M>>,
+    store: &mut Pager<State<P, F, M>>,
     change: Change,
 ) -> bool
     ensures fits { (t : Tables) → FitsTables t (paged.contents store.old) (paged.store store.old)
@@ -126,7 +126,7 @@ fn change_store<P: Inject, F: Inject, M: Moves>(
 
 /// The same behind a world.
 pub(crate) fn change_world<P: Inject, F: Inject, M: Moves>(
-    world: &mut World<Paged<State<P, F, M>>>,
+    world: &mut World<Pager<State<P, F, M>>>,
     change: Change,
 ) -> bool
     requires ready { world.old.spent ≡ false }

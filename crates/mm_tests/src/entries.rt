@@ -1,8 +1,8 @@
 ghost use Rattle.std.specs.Prelude.{◌≡◌, ◌^◌, ◌<◌, Some, OnSome, IfSome};
 ghost use Rattle.mm_page_tables.specs.{first_number};
 
-use mm_types::{Area, Block, Frame, Slot};
 use mm_page_tables::{Entry, decode, encode};
+use mm_types::{Area, Block, Frame, Slot};
 
 /// The entry of an entry's word.
 fn there_and_back(entry: Entry) -> Option<Entry>

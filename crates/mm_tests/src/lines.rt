@@ -3,10 +3,10 @@ ghost use Rattle.mm_devices.specs.{empty_block};
 ghost use Rattle.mm_script.specs.{IsWellFormed};
 ghost use Rattle.mm_dispatch.specs.{is_machine, line_number};
 
-use mm_devices::{Blocks, MemBlocks};
+use mm_devices::{BlockDevice, MemBlocks};
 use mm_dispatch::{World, is_machine};
-use mm_store::Pages;
 use mm_script::parse_line;
+use mm_store::PageStore;
 use mm_text::{LineBuf, spell};
 use mm_types::{Answer, Event, NoMemory};
 use std::alloc::Global;
@@ -27,7 +27,7 @@ pub enum Stopped {
 }
 
 /// One line, of which its number alone is told, so that what follows is proved with little at hand.
-fn decide<G: Pages>(
+fn decide<G: PageStore>(
     alloc: Global,
     world: &mut World<G>,
     line: u32,
@@ -59,7 +59,7 @@ fn is_spelled(answer: &Answer, wanted: &[u8]) -> bool {
 /// Decides line `n`, as it is written, whose answer has to be the one that is wanted. `Form` comes
 /// for what is no line after the first, `Memory` where memory was refused, `Answer` for another
 /// answer.
-pub fn read_line<G: Pages>(
+pub fn read_line<G: PageStore>(
     alloc: Global,
     world: &mut World<G>,
     n: u32,

@@ -6,10 +6,10 @@ ghost use Rattle.mm_dispatch.specs.{line_number};
 use crate::lines::{Stopped, opened, read_line};
 use mm_devices::{Injected, MemBlocks};
 use mm_dispatch::World;
-use mm_store::Pages;
-use mm_unpaged::Plain;
 use mm_script::parse_line;
+use mm_store::PageStore;
 use mm_types::{Event, Machine};
+use mm_unpaged::Unpaged;
 use std::alloc::Global;
 use std::test::Fail;
 
@@ -84,7 +84,7 @@ fn split_line(text: &[u8]) -> (&[u8], &[u8]) {
 
 /// The lines of a row after its first, over a world in which the first line was decided: how many
 /// there were.
-fn all_lines<G: Pages>(
+fn all_lines<G: PageStore>(
     alloc: Global,
     world: &mut World<G>,
     script: &[u8],
@@ -109,7 +109,7 @@ fn all_lines<G: Pages>(
 }
 
 /// The lines of a row over the new store of a machine, which is given back.
-fn over_store<G: Pages>(
+fn over_store<G: PageStore>(
     alloc: Global,
     machine: Machine,
     store: G,
@@ -133,7 +133,7 @@ fn over_machine(
 ) -> Result<u32, Stopped>
     requires blocks { files.old.blocks ≡ replicate machine.blocks empty_block }
 {
-    match Plain::new(alloc, machine, Injected::new(files)) {
+    match Unpaged::new(alloc, machine, Injected::new(files)) {
         Ok(store) => {
             let (lines, store) = over_store(alloc, machine, store, script, answers);
             let _files = store.finish();

@@ -10,9 +10,9 @@ use mm_devices::{Inject, Injected, MemBlocks};
 use mm_dispatch::World;
 use mm_io::MemSink;
 use mm_log_writer::{Moves, Recorder};
-use mm_pager::Paged;
-use mm_store::Pages;
+use mm_pager::Pager;
 use mm_state::State;
+use mm_store::PageStore;
 use mm_types::Machine;
 use std::alloc::Global;
 use std::test::Fail;
@@ -70,7 +70,7 @@ const NOT_READ: Lines = &[
 /// A line, before which the change is made where it is the one that is named.
 fn change_or_read<P: Inject, F: Inject, M: Moves>(
     alloc: Global,
-    world: &mut World<Paged<State<P, F, M>>>,
+    world: &mut World<Pager<State<P, F, M>>>,
     n: u32,
     line: (&str, &str),
     scene: (u32, Change),
@@ -90,7 +90,7 @@ fn change_or_read<P: Inject, F: Inject, M: Moves>(
 /// The lines of a scene, over a world in which the first line was decided.
 fn all_lines<P: Inject, F: Inject, M: Moves>(
     alloc: Global,
-    world: &mut World<Paged<State<P, F, M>>>,
+    world: &mut World<Pager<State<P, F, M>>>,
     lines: &[(&str, &str)],
     scene: (u32, Change),
 ) -> Result<(), Stopped>
@@ -109,7 +109,7 @@ fn all_lines<P: Inject, F: Inject, M: Moves>(
 }
 
 /// A new world over a new store.
-fn first<G: Pages>(alloc: Global, pages: G) -> World<G>
+fn first<G: PageStore>(alloc: Global, pages: G) -> World<G>
     requires { IsNew small_machine (G.contents pages) (G.store pages) }
     ensures line { line_number result ≡ 1 }
     ensures ready { result.spent ≡ false }
@@ -134,7 +134,7 @@ fn over_new<P: Inject + Drop, F: Inject + Drop, M: Moves + Drop>(
     let machine = Machine::new(6, 8, 1, 1);
     match State::new(alloc, machine, paging, files, moves) {
         Ok(state) => {
-            let store = Paged::over(state);
+            let store = Pager::over(state);
             let mut world = first(alloc, store);
             let gone = all_lines(alloc, &mut world, lines, scene);
             let _devices = world.finish().finish().finish();

@@ -12,9 +12,9 @@ ghost use Rattle.mm_sentences.specs.{why_text};
 use crate::ages::Ages;
 use crate::reasons::Reason;
 use crate::rows::{put_class_row, put_line_row};
+use mm_log_walk::{Classed, Classifier, Lines, Teller};
 use mm_replay::Life;
 use mm_sentences::{Facts, facts_of, no_facts, put_why};
-use mm_log_walk::{Classed, Classifier, Lines, Teller};
 use mm_types::{Move, NoMemory};
 use std::alloc::Global;
 

@@ -17,7 +17,7 @@ use Rattle.mm_unpaged.specs.declared.areas.AreaPages.TheVariants.{Paged, Filed}
 use Rattle.mm_unpaged.specs.Files.{page_of}
 use Rattle.mm_unpaged.proofs.OpenAreas.{in_file, live_within, none_at}
 use Rattle.mm_unpaged.proofs.Contents.{Becomes, Kept, areas_kept, page_at_place, page_in_area, paging_kept, sizes_changed}
-use Rattle.mm_unpaged.specs.declared.plain.Plain.{Plain}
+use Rattle.mm_unpaged.specs.declared.unpaged.Unpaged.{Unpaged}
 use Rattle.mm_devices.specs.declared.Inject.{Ghosts as DeviceGhosts}
 
 -- ---- functions of areas
@@ -52,11 +52,11 @@ dead_page files (Some (Paged pages)) j e = e
 dead_page files (Some (Filed first count)) j e = refl
 
 -- a live key without a block is no file's
-pub own_live : {F : Type 0} {d : DeviceGhosts F} (s : Plain F d) (k : Key) → blocks_of (area_in s.areas) k ≡ None → IsSome (contents_in s k) → plain_paging (pages_at s.places) (area_in s.areas) k ≡ true
+pub own_live : {F : Type 0} {d : DeviceGhosts F} (s : Unpaged F d) (k : Key) → blocks_of (area_in s.areas) k ≡ None → IsSome (contents_in s k) → plain_paging (pages_at s.places) (area_in s.areas) k ≡ true
 own_live s (Private p v) e h = h
 own_live s (Shared a i) e h = subst (λ b. IsSome (shared_page s.file_pages.items b (page_of_area (area_in s.areas a.0) i))) e h
 
-module _ {F : Type 0} {d : DeviceGhosts F} (s : Plain F d) {k : Key} where
+module _ {F : Type 0} {d : DeviceGhosts F} (s : Unpaged F d) {k : Key} where
   -- a key that comes to be in an area has its index there, and no page
   pub home_near : {blocks : List Page} {count : ℕ} {a : Area} {i : ℕ} → k ≡ Shared a i → HasHome (store_in s) k → contents_in s k ≡ None → FilesFit (area_in s.areas) s.file_pages.items blocks count → (i < length (area_pages (area_in s.areas a.0))) × (page_of_area (area_in s.areas a.0) i ≡ None)
   home_near {a = a} {i = i} is home dead fit =

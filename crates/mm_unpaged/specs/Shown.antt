@@ -6,7 +6,7 @@ use Rattle.mm_types.specs.declared.numbers.Key.TheVariants as key
 use Rattle.mm_world.specs.{Page, Tally, Whereabouts, InFrame}
 use Rattle.mm_world.specs.Report.{Report}
 use Rattle.mm_store.specs.{need_for, no_calls, Ready}
-use Rattle.mm_unpaged.specs.declared.plain.Wanted.{Wanted}
+use Rattle.mm_unpaged.specs.declared.unpaged.Wanted.{Wanted}
 use Rattle.mm_unpaged.specs.declared.areas.AreaPages.{AreaPages}
 use Rattle.mm_unpaged.specs.declared.files.FilePage.{FilePage}
 use Rattle.mm_unpaged.specs.Areas.{size_of, page_of_area, area_block}

@@ -9,6 +9,6 @@ mod areas;
 mod boxes;
 mod files;
 mod places;
-mod plain;
+mod unpaged;
 
-pub use plain::Plain;
+pub use unpaged::Unpaged;

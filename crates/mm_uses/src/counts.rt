@@ -11,10 +11,10 @@ ghost use Rattle.mm_uses.specs.Uses.{use_rows, use_text};
 ghost use Rattle.mm_sentences.specs.{why_text};
 
 use crate::tables::put_use;
+use mm_log_walk::Teller;
 use mm_move_classes::counts_in;
 use mm_replay::Life;
 use mm_sentences::{put_why, put_words};
-use mm_log_walk::Teller;
 use mm_text::{put_numbers, put_right_number};
 use mm_types::{Counts, Move, NoMemory};
 use std::alloc::Global;

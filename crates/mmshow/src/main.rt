@@ -1,14 +1,93 @@
 //! Shows a log of moves on standard input, as a page for a browser and as texts for the terminal.
 #![tactic(auto)]
 
-use mm_io::{StdSink, StdSource, buffered, exit_code, words};
+use clap::{Arg, ArgAction, Command};
+use mm_help::{asks, described, tell};
 use mm_html::{UP_TO_ANSWERS, UP_TO_CLASSES, UP_TO_END, UP_TO_MOVES, UP_TO_SCRIPT};
+use mm_io::{StdSink, StdSource, buffered, exit_code, words};
 use mm_show::{PageTexts, run_show};
 use mm_types::NoMemory;
 use std::alloc::Global;
 use std::fs::File;
 use std::process::ExitCode;
 use std::{fs, io};
+
+/// The status of words that are no form.
+const USAGE: u8 = 2;
+
+const ABOUT: &str = "Shows a log of page frames.";
+
+const AFTER: &str = "\
+The log is read from standard input. SCRIPT and ANSWERS are files, whose lines stand beside the
+moves:
+  mmshow tell examples/first.mm examples/first.out < first.log
+
+Statuses: 0 shown; 1 memory was refused; 2 the words are no form; 3 a line of the log is no legal
+move; 4 the log could not be read; 5 the text could not be written; 6 a file could not be read or
+does not fit; 8 the log is too long.";
+
+/// A form that has at most two files behind it.
+fn with_files<'a>(alloc: Global, name: &'a str, about: &'a str) -> Result<Command<'a>, NoMemory> {
+    let script = Arg::new(alloc, "SCRIPT").help("The file of the script");
+    let answers = Arg::new(alloc, "ANSWERS").help("The file of its answers");
+    let command = Command::new(alloc, name)
+        .about(about)
+        .arg(script)?
+        .arg(answers)?;
+    Ok(command)
+}
+
+/// A form that has a value behind it.
+fn with_value<'a>(
+    alloc: Global,
+    name: &'a str,
+    about: &'a str,
+    value: &'a str,
+    required: bool,
+) -> Result<Command<'a>, NoMemory> {
+    let value = Arg::new(alloc, value)
+        .action(ArgAction::Set)
+        .required(required);
+    let command = Command::new(alloc, name).about(about).arg(value)?;
+    Ok(command)
+}
+
+/// The program's forms, as its help and its mistakes tell them.
+fn command<'a>(alloc: Global) -> Result<Command<'a>, NoMemory> {
+    let html = with_files(alloc, "html", "One page for a browser")?;
+    let tells = with_files(alloc, "tell", "Each line, and in words what moved")?;
+    let events = with_files(alloc, "events", "A row of csv for each move")?;
+    let counts = with_value(
+        alloc,
+        "counts",
+        "The lists, line by line or after one",
+        "LINE",
+        false,
+    )?;
+    let state = with_value(
+        alloc,
+        "state",
+        "Every page frame and page after a line",
+        "LINE",
+        true,
+    )?;
+    let frame = with_value(alloc, "frame", "What became of a page frame", "N", true)?;
+    let key = with_value(alloc, "key", "What became of a page, as p1.16", "KEY", true)?;
+    let faults = Command::new(alloc, "faults").about("The faults by process and page");
+    let sums = Command::new(alloc, "sums").about("How many moves of each class");
+    let command = described(alloc, "mmshow", ABOUT, AFTER)
+        .subcommand_required(true)
+        .subcommand(html)?
+        .subcommand(tells)?
+        .subcommand(events)?
+        .subcommand(counts)?
+        .subcommand(state)?
+        .subcommand(frame)?
+        .subcommand(key)?
+        .subcommand(faults)?
+        .subcommand(sums)?;
+    Ok(command)
+}
 
 /// Whether the first word is the name of a form whose values are files.
 fn has_files(words: &[String]) -> bool {
@@ -50,11 +129,14 @@ fn texts() -> PageTexts<'static> {
 fn show(rt: &HostRuntime) -> Result<u8, NoMemory> {
     let words = words(rt)?;
     let alloc: Global = rt.alloc();
+    if asks(&words) {
+        return tell(rt, command(alloc)?, &words);
+    }
     let mut script = named(rt, &words, 1);
     let mut answers = named(rt, &words, 2);
     let mut log = StdSource::new(rt.reader());
     let mut out = StdSink::new(buffered(alloc, io::writer(rt))?);
-    Ok(run_show(
+    let status = run_show(
         alloc,
         &words,
         &mut log,
@@ -62,7 +144,11 @@ fn show(rt: &HostRuntime) -> Result<u8, NoMemory> {
         &mut answers,
         &texts(),
         &mut out,
-    ))
+    );
+    if status == USAGE {
+        tell(rt, command(alloc)?, &words)?;
+    }
+    Ok(status)
 }
 
 fn main(rt: HostRuntime) -> ExitCode {

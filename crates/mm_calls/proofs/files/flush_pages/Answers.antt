@@ -8,15 +8,15 @@ use Rattle.mm_store.proofs.{served_then}
 pub loop-i-init : goal.loop-i-init
 loop-i-init g c =
     record {
-      flushed = flushed_none (g.G.Pages.contents c.args.g.now) (g.G.Pages.store c.args.g.now) c.args.area.0 c.args.first;
-      passes = loop_none g.G.Pages.unpaged c.args.area.0 c.args.first (g.G.Pages.store c.args.g.now) (g.G.Pages.behind c.args.g.now);
+      flushed = flushed_none (g.G.PageStore.contents c.args.g.now) (g.G.PageStore.store c.args.g.now) c.args.area.0 c.args.first;
+      passes = loop_none g.G.PageStore.unpaged c.args.area.0 c.args.first (g.G.PageStore.store c.args.g.now) (g.G.PageStore.behind c.args.g.now);
       loans = refl;
     }
 
 pub returns-in_err-flush-clause-flushes : goal.returns-in_err-flush-clause-flushes
 returns-in_err-flush-clause-flushes g c = record {
   store = search rules;
-  served = served_then (g.G.Pages.store c.args.g.now) (g.G.Pages.store c.loop-i.g) (g.G.Pages.store c.flush.new.self) c.loop-i.invariant.flushed.served c.in_err-flush.ensures.served;
+  served = served_then (g.G.PageStore.store c.args.g.now) (g.G.PageStore.store c.loop-i.g) (g.G.PageStore.store c.flush.new.self) c.loop-i.invariant.flushed.served c.in_err-flush.ensures.served;
   stored = search rules;
   contents = search rules;
   loans = search rules;
@@ -27,27 +27,27 @@ returns-in_err-flush-clause-broke g c =
     on_err c.from_residual.result
     (record {
       failed = search rules;
-      blamed = blamed_since (g.G.Pages.store c.args.g.now) (g.G.Pages.store c.loop-i.g) (g.G.Pages.store c.flush.new.self) c.loop-i.invariant.flushed.served c.in_err-flush.ensures.blamed;
+      blamed = blamed_since (g.G.PageStore.store c.args.g.now) (g.G.PageStore.store c.loop-i.g) (g.G.PageStore.store c.flush.new.self) c.loop-i.invariant.flushed.served c.in_err-flush.ensures.blamed;
     })
 
 pub loop-i-preserved : goal.loop-i-preserved
 loop-i-preserved g c =
     let e = c.in_ok-flush.ensures in
     record {
-      flushed = flushed_more (g.G.Pages.contents c.args.g.now) (g.G.Pages.contents c.loop-i.g) (g.G.Pages.contents c.flush.new.self) (g.G.Pages.store c.args.g.now) (g.G.Pages.store c.loop-i.g) (g.G.Pages.store c.flush.new.self)
+      flushed = flushed_more (g.G.PageStore.contents c.args.g.now) (g.G.PageStore.contents c.loop-i.g) (g.G.PageStore.contents c.flush.new.self) (g.G.PageStore.store c.args.g.now) (g.G.PageStore.store c.loop-i.g) (g.G.PageStore.store c.flush.new.self)
           c.args.area.0 c.args.first c.loop-i.i c.args.count c.args.block.0 c.loop-i.invariant.flushed c.requires.blocks c.loop-i-test.true
           (record { store = e.store; contents = e.contents; holds = e.ok; others = e.others; served = e.served; stored = e.stored; quiet = e.quiet });
-      passes = loop_more g.G.Pages.unpaged c.args.area.0 c.args.first c.loop-i.i (g.G.Pages.store c.args.g.now) (g.G.Pages.store c.loop-i.g) (g.G.Pages.store c.flush.new.self)
-          (g.G.Pages.behind c.args.g.now) (g.G.Pages.behind c.loop-i.g) (g.G.Pages.behind c.flush.new.self) c.loop-i.invariant.passes e.passes;
+      passes = loop_more g.G.PageStore.unpaged c.args.area.0 c.args.first c.loop-i.i (g.G.PageStore.store c.args.g.now) (g.G.PageStore.store c.loop-i.g) (g.G.PageStore.store c.flush.new.self)
+          (g.G.PageStore.behind c.args.g.now) (g.G.PageStore.behind c.loop-i.g) (g.G.PageStore.behind c.flush.new.self) c.loop-i.invariant.passes e.passes;
       loans = e.loans ∙ c.loop-i.invariant.loans;
     }
 
 pub returns-in_err-flush-clause-passes : goal.returns-in_err-flush-clause-passes
 returns-in_err-flush-clause-passes g c =
-    loop_ended g.G.Pages.unpaged c.args.area.0 c.args.first c.loop-i.i c.args.count (g.G.Pages.store c.args.g.now) (g.G.Pages.store c.loop-i.g) (g.G.Pages.store c.flush.new.self)
-    (g.G.Pages.behind c.args.g.now) (g.G.Pages.behind c.loop-i.g) (g.G.Pages.behind c.flush.new.self) c.loop-i-test.true c.loop-i.invariant.passes c.in_err-flush.ensures.passes
+    loop_ended g.G.PageStore.unpaged c.args.area.0 c.args.first c.loop-i.i c.args.count (g.G.PageStore.store c.args.g.now) (g.G.PageStore.store c.loop-i.g) (g.G.PageStore.store c.flush.new.self)
+    (g.G.PageStore.behind c.args.g.now) (g.G.PageStore.behind c.loop-i.g) (g.G.PageStore.behind c.flush.new.self) c.loop-i-test.true c.loop-i.invariant.passes c.in_err-flush.ensures.passes
 
 pub returns-clause-passes : goal.returns-clause-passes
 returns-clause-passes g c =
-    loop_all g.G.Pages.unpaged c.args.area.0 c.args.first c.loop-i.i c.args.count (g.G.Pages.store c.args.g.now) (g.G.Pages.store c.loop-i.g) (g.G.Pages.behind c.args.g.now) (g.G.Pages.behind c.loop-i.g)
+    loop_all g.G.PageStore.unpaged c.args.area.0 c.args.first c.loop-i.i c.args.count (g.G.PageStore.store c.args.g.now) (g.G.PageStore.store c.loop-i.g) (g.G.PageStore.behind c.args.g.now) (g.G.PageStore.behind c.loop-i.g)
     (omega (arith, c.loop-i-test.false, c.loop-i.auto.i-end)) c.loop-i.invariant.passes

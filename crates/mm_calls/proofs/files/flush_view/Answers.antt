@@ -74,21 +74,21 @@ flush_view_pages-requires-clause-within g c =
 
 pub returns-then-not-has-clause-passes : goal.returns-then-not-has-clause-passes
 returns-then-not-has-clause-passes g c =
-    let s = g.G.Pages.store c.args.g.now in
-    let b = g.G.Pages.behind c.args.g.now in
-    subst (λ ks. PassesIn g.G.Pages.unpaged (Flushes ks) s s b b) (no_process c.args.t.now c.args.pid.0 c.args.addr c.args.size (sym c.has.ensures ∙ c.if-not-has.true)) (flushes_none g.G.Pages.unpaged s b)
+    let s = g.G.PageStore.store c.args.g.now in
+    let b = g.G.PageStore.behind c.args.g.now in
+    subst (λ ks. PassesIn g.G.PageStore.unpaged (Flushes ks) s s b b) (no_process c.args.t.now c.args.pid.0 c.args.addr c.args.size (sym c.has.ensures ∙ c.if-not-has.true)) (flushes_none g.G.PageStore.unpaged s b)
 
 pub returns-in-None-clause-passes : goal.returns-in-None-clause-passes
 returns-in-None-clause-passes g c =
     let t = c.args.t.now in
-    let s = g.G.Pages.store c.args.g.now in
-    let b = g.G.Pages.behind c.args.g.now in
+    let s = g.G.PageStore.store c.args.g.now in
+    let b = g.G.PageStore.behind c.args.g.now in
     let range : Range = c.meant_range-meant.result in
     let p = some_found (process_of t c.args.pid.0) (sym c.has.ensures ∙ c.if-not-has.false) in
     let none : flushed_view p.0.regions c.args.addr c.args.size ≡ None =
     ap (view_around p.0.regions) (sym c.meant_range-meant.ensures)
     ∙ told_none (view_around p.0.regions range) (ap (λ rs. option_map found_info (view_around rs range)) (sym (c.space.ensures p.0 p.1)) ∙ sym c.view_around.ensures.found ∙ c.in-None.is) in
-    subst (λ ks. PassesIn g.G.Pages.unpaged (Flushes ks) s s b b) (no_view t c.args.pid.0 p.0 c.args.addr c.args.size p.1 none) (flushes_none g.G.Pages.unpaged s b)
+    subst (λ ks. PassesIn g.G.PageStore.unpaged (Flushes ks) s s b b) (no_view t c.args.pid.0 p.0 c.args.addr c.args.size p.1 none) (flushes_none g.G.PageStore.unpaged s b)
 
 pub returns-clause-passes : goal.returns-clause-passes
 returns-clause-passes g c =
@@ -112,5 +112,5 @@ returns-clause-passes g c =
     let at : before ≡ page_of addr - v.region.thing.base = omega (arith, meant, begins, first, base) in
     let count = flushed_count_is v.region.thing addr size before c.region.inside.0.0.first c.region.inside.0.0.count c.meant.inside.count
     (omega (arith, first, base)) (omega (arith, rows, length)) (omega (arith, meant, begins)) (omega (arith, first, base, low)) (many ∙ ap (λ (r : Range). r.count) asked) in
-    subst (λ ks. PassesIn g.G.Pages.unpaged (Flushes ks) (g.G.Pages.store c.args.g.now) (g.G.Pages.store c.flush_view_pages.new.g) (g.G.Pages.behind c.args.g.now) (g.G.Pages.behind c.flush_view_pages.new.g))
+    subst (λ ks. PassesIn g.G.PageStore.unpaged (Flushes ks) (g.G.PageStore.store c.args.g.now) (g.G.PageStore.store c.flush_view_pages.new.g) (g.G.PageStore.behind c.args.g.now) (g.G.PageStore.behind c.flush_view_pages.new.g))
     (flushed_are t c.args.pid.0 p.process addr size v.region c.view_of-view.result before c.flushed_count-count.result p.lives found v.kind low at (c.flushed_count-count.ensures ∙ count)) c.flush_view_pages.ensures.passes

@@ -37,24 +37,24 @@ overflow_mul-result g c =
     omega (arith, ap (λ (r : Range). r.first) c.range-in-Private.view_is, user_range c.args.t.now c.args.pid.0 p.0 c.args.range a.region p.1 c.sound.ensures.sound a.found)
 
 pub returns-in-None : goal.returns-in-None
-returns-in-None g c = commits_none g.G.Pages c.requires.ready.fits c.args.pid c.args.range c.args.prot code.InvalidAddress (search rules)
+returns-in-None g c = commits_none g.G.PageStore c.requires.ready.fits c.args.pid c.args.range c.args.prot code.InvalidAddress (search rules)
 
 pub returns-then-not-can_charge : goal.returns-then-not-can_charge
 returns-then-not-can_charge g c =
-    commits_none g.G.Pages c.requires.ready.fits c.args.pid c.args.range c.args.prot code.CommitmentLimit
+    commits_none g.G.PageStore c.requires.ready.fits c.args.pid c.args.range c.args.prot code.CommitmentLimit
     (λ p lives. past_limit (asked g (goal.at.returns-then-not-can_charge g c).After-can_charge p lives).within c.can_charge.ensures c.if-not-can_charge.true)
 
 pub returns-in-Ok : goal.returns-in-Ok
 returns-in-Ok g c =
-    commits_some g.G.Pages c.requires.ready.fits c.args.pid c.args.range c.args.prot c.commit.ensures.settles.settled
+    commits_some g.G.PageStore c.requires.ready.fits c.args.pid c.args.range c.args.prot c.commit.ensures.settles.settled
     (λ p lives.
     let a = asked g (goal.at.returns-in-Ok g c).After-can_charge p lives in
     then_made a.within c.can_charge.ensures c.if-not-can_charge.false (ap (λ (r : Range). answer.At (r.first * 4096)) c.range-in-Private.view_is) (c.in-Ok.ensures.ok p a.region lives a.found))
-    (makes_within g.G.Pages _ c.commit.ensures.makes c.commit.ensures.among tt)
+    (makes_within g.G.PageStore _ c.commit.ensures.makes c.commit.ensures.among tt)
 
 pub returns-in-Err : goal.returns-in-Err
 returns-in-Err g c =
-    commits_broke g.G.Pages c.requires.ready.fits c.args.pid c.args.range c.args.prot (c.range.inside.count - c.owned.result) c.can_charge.ensures c.if-not-can_charge.false
+    commits_broke g.G.PageStore c.requires.ready.fits c.args.pid c.args.range c.args.prot (c.range.inside.count - c.owned.result) c.can_charge.ensures c.if-not-can_charge.false
     (omega (arith, ap (λ (r : Range). r.count) c.range.view_is)) c.in-Err.ensures.enough
     (λ p lives. then_charged (asked g (goal.at.returns-in-Err g c).After-can_charge p lives).within c.can_charge.ensures c.if-not-can_charge.false)
-    c.in-Err.ensures.settles (makes_within g.G.Pages _ c.commit.ensures.makes c.commit.ensures.among c.in-Err.ensures.makes.idle)
+    c.in-Err.ensures.settles (makes_within g.G.PageStore _ c.commit.ensures.makes c.commit.ensures.among c.in-Err.ensures.makes.idle)

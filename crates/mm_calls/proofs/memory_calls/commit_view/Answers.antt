@@ -91,27 +91,27 @@ asked g c p lives =
 
 pub returns-then-not-can_charge : goal.returns-then-not-can_charge
 returns-then-not-can_charge g c =
-    commits_none g.G.Pages c.requires.ready.fits c.args.pid c.args.range c.args.prot code.CommitmentLimit
+    commits_none g.G.PageStore c.requires.ready.fits c.args.pid c.args.range c.args.prot code.CommitmentLimit
     (λ p lives. past_limit (asked g (goal.at.returns-then-not-can_charge g c).After-can_charge p lives).within c.can_charge.ensures c.if-not-can_charge.true)
 
 pub returns-then-is_some : goal.returns-then-is_some
-returns-then-is_some g c = commits_none g.G.Pages c.requires.ready.fits c.args.pid c.args.range c.args.prot code.InvalidAddress (search rules)
+returns-then-is_some g c = commits_none g.G.PageStore c.requires.ready.fits c.args.pid c.args.range c.args.prot code.InvalidAddress (search rules)
 
 pub returns-then-not-accepts : goal.returns-then-not-accepts
-returns-then-not-accepts g c = commits_none g.G.Pages c.requires.ready.fits c.args.pid c.args.range c.args.prot code.InvalidParameter (search rules)
+returns-then-not-accepts g c = commits_none g.G.PageStore c.requires.ready.fits c.args.pid c.args.range c.args.prot code.InvalidParameter (search rules)
 
 pub returns-in-Ok : goal.returns-in-Ok
 returns-in-Ok g c =
-    commits_some g.G.Pages c.requires.ready.fits c.args.pid c.args.range c.args.prot c.commit_view.ensures.settles.settled
+    commits_some g.G.PageStore c.requires.ready.fits c.args.pid c.args.range c.args.prot c.commit_view.ensures.settles.settled
     (λ p lives.
     let a = asked g (goal.at.returns-in-Ok g c).After-can_charge p lives in
     then_made a.within c.can_charge.ensures c.if-not-can_charge.false (ap (λ (r : Range). answer.At (r.first * 4096)) c.range-2.view_is)
     (c.in-Ok.ensures.ok p a.view.region c.args.view lives a.view.found a.view.kind))
-    (makes_as g.G.Pages _ c.commit_view.ensures.makes tt)
+    (makes_as g.G.PageStore _ c.commit_view.ensures.makes tt)
 
 pub returns-in-Err : goal.returns-in-Err
 returns-in-Err g c =
     let few : c.uncommitted-n.result ≤ c.args.range.count = omega (arith, c.uncommitted-n.ensures, uncommitted_few c.area-area.result.now (c.args.view.first + (c.range.inside.first - c.pages.inside.first)) c.range.inside.count, ap (λ (r : Range). r.count) c.range.view_is) in
-    commits_broke g.G.Pages c.requires.ready.fits c.args.pid c.args.range c.args.prot c.uncommitted-n.result c.can_charge.ensures c.if-not-can_charge.false few c.in-Err.ensures.enough
+    commits_broke g.G.PageStore c.requires.ready.fits c.args.pid c.args.range c.args.prot c.uncommitted-n.result c.can_charge.ensures c.if-not-can_charge.false few c.in-Err.ensures.enough
     (λ p lives. then_charged (asked g (goal.at.returns-in-Err g c).After-can_charge p lives).within c.can_charge.ensures c.if-not-can_charge.false)
-    c.in-Err.ensures.settles (makes_as g.G.Pages _ c.commit_view.ensures.makes c.in-Err.ensures.makes.idle)
+    c.in-Err.ensures.settles (makes_as g.G.PageStore _ c.commit_view.ensures.makes c.in-Err.ensures.makes.idle)

@@ -17,7 +17,7 @@ returns-clause-no_memory g c none =
     (subst (λ (range : Range). charge t < charge (protect_pages t c.args.pid.0 p.0 range c.args.prot).world) c.of.ensures (more p.0 p.1)) none))
 
 pub returns-then-not-has-clause-idles : goal.returns-then-not-has-clause-idles
-returns-then-not-has-clause-idles g c = stays_idle g.G.Pages c.args.g.now
+returns-then-not-has-clause-idles g c = stays_idle g.G.PageStore c.args.g.now
 
 pub returns-then-not-are_protect_parameters-clause-idles : goal.returns-then-not-are_protect_parameters-clause-idles
-returns-then-not-are_protect_parameters-clause-idles g c = stays_idle g.G.Pages c.args.g.now
+returns-then-not-are_protect_parameters-clause-idles g c = stays_idle g.G.PageStore c.args.g.now

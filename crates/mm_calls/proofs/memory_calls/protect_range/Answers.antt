@@ -33,38 +33,38 @@ asked g c p lives =
 
 pub returns-in-None-clause-done : goal.returns-in-None-clause-done
 returns-in-None-clause-done g c =
-    decides_same g.G.Pages c.requires.ready.fits c.args.pid _ _ (λ p lives.
+    decides_same g.G.PageStore c.requires.ready.fits c.args.pid _ _ (λ p lives.
     protect_missing c.args.t.now c.args.pid.0 p c.args.range c.args.prot (ap (λ rs. region_around rs c.args.range) (sym (c.space-space.ensures p lives)) ∙ c.in-None.ensures.none))
 
 pub returns-in-None-clause-idles : goal.returns-in-None-clause-idles
-returns-in-None-clause-idles g c = stays_idle g.G.Pages c.args.g.now
+returns-in-None-clause-idles g c = stays_idle g.G.PageStore c.args.g.now
 
 pub returns-then-not-are_committed-clause-done : goal.returns-then-not-are_committed-clause-done
 returns-then-not-are_committed-clause-done g c =
-    decides_same g.G.Pages c.requires.ready.fits c.args.pid _ _ (λ p lives.
+    decides_same g.G.PageStore c.requires.ready.fits c.args.pid _ _ (λ p lives.
     (let at = found g (goal.at.returns-then-not-are_committed-clause-done g c).After-are_committed p lives in
     protect_uncommitted c.args.t.now c.args.pid.0 p c.args.range c.args.prot _ at (sym (c.are_committed.ensures p _ lives at) ∙ c.if-not-are_committed.true)))
 
 pub returns-then-not-are_committed-clause-idles : goal.returns-then-not-are_committed-clause-idles
-returns-then-not-are_committed-clause-idles g c = stays_idle g.G.Pages c.args.g.now
+returns-then-not-are_committed-clause-idles g c = stays_idle g.G.PageStore c.args.g.now
 
 pub returns-then-not-asked-clause-done : goal.returns-then-not-asked-clause-done
 returns-then-not-asked-clause-done g c =
-    decides_same g.G.Pages c.requires.ready.fits c.args.pid _ _ (λ p lives.
+    decides_same g.G.PageStore c.requires.ready.fits c.args.pid _ _ (λ p lives.
     (let at = found g (goal.at.returns-then-not-asked-clause-done g c).After-are_committed p lives in
     protect_unaccepted c.args.t.now c.args.pid.0 p c.args.range c.args.prot _ at (sym (c.are_committed.ensures p _ lives at) ∙ c.if-not-are_committed.false)
     (sym (c.in-Some.ensures.accepted _ c.in-Some.ensures.some.around) ∙ not-true c.in-Some.asked.accepted c.if-not-asked.true)))
 
 pub returns-then-not-asked-clause-idles : goal.returns-then-not-asked-clause-idles
-returns-then-not-asked-clause-idles g c = stays_idle g.G.Pages c.args.g.now
+returns-then-not-asked-clause-idles g c = stays_idle g.G.PageStore c.args.g.now
 
 pub returns-then-not-can_charge-clause-done : goal.returns-then-not-can_charge-clause-done
 returns-then-not-can_charge-clause-done g c =
-    decides_same g.G.Pages c.requires.ready.fits c.args.pid _ _ (λ p lives.
+    decides_same g.G.PageStore c.requires.ready.fits c.args.pid _ _ (λ p lives.
     past_limit (asked g (goal.at.returns-then-not-can_charge-clause-done g c).After-can_charge p lives).within c.can_charge.ensures c.if-not-can_charge.true)
 
 pub returns-then-not-can_charge-clause-idles : goal.returns-then-not-can_charge-clause-idles
-returns-then-not-can_charge-clause-idles g c = stays_idle g.G.Pages c.args.g.now
+returns-then-not-can_charge-clause-idles g c = stays_idle g.G.PageStore c.args.g.now
 
 pub returns-in-Ok-clause-done : goal.returns-in-Ok-clause-done
 returns-in-Ok-clause-done g c = record {
@@ -80,4 +80,4 @@ returns-in-Err-clause-marks g c p lives =
     omega (arith, then_charged a.within c.can_charge.ensures c.if-not-can_charge.false, some_marks c.marks-n.result (λ none. let bad = c.in-Err.ensures.some none in cc))
 
 pub returns-in-Err-clause-broke : goal.returns-in-Err-clause-broke
-returns-in-Err-clause-broke g c = lacks g.G.Pages c.in-Err.ensures.settles
+returns-in-Err-clause-broke g c = lacks g.G.PageStore c.in-Err.ensures.settles

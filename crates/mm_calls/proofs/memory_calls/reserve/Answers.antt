@@ -20,34 +20,34 @@ within g c p lives =
 
 pub returns-in-None-clause-made : goal.returns-in-None-clause-made
 returns-in-None-clause-made g c =
-    makes_same g.G.Pages c.requires.ready.fits c.args.pid _ _ (λ p lives.
+    makes_same g.G.PageStore c.requires.ready.fits c.args.pid _ _ (λ p lives.
     reserve_missing c.args.t.now c.args.pid.0 p c.args.addr c.args.size c.args.watched c.args.kind c.args.prot
     (ap (λ rs. placed (ranges_of rs) c.args.addr (granule_range_of c.args.addr c.args.size) (pages_for c.args.size)) (sym (c.space.ensures p lives)) ∙ sym c.in-None.ensures.found))
 
 pub returns-then-not-can_charge-clause-made : goal.returns-then-not-can_charge-clause-made
 returns-then-not-can_charge-clause-made g c =
-    makes_same g.G.Pages c.requires.ready.fits c.args.pid _ _ (λ p lives.
+    makes_same g.G.PageStore c.requires.ready.fits c.args.pid _ _ (λ p lives.
     past_limit (within g (goal.at.returns-then-not-can_charge-clause-made g c).After-can_charge p lives) c.can_charge.ensures c.if-not-can_charge.true)
 
 pub returns-in-Ok-clause-made : goal.returns-in-Ok-clause-made
 returns-in-Ok-clause-made g c =
-    makes_some g.G.Pages c.reserve.ensures.settles.settled (λ p lives.
+    makes_some g.G.PageStore c.reserve.ensures.settles.settled (λ p lives.
     then_made (within g (goal.at.returns-in-Ok-clause-made g c).After-can_charge p lives) c.can_charge.ensures c.if-not-can_charge.false
     (ap (λ (r : Range). answer.At (r.first * 4096)) c.range.view_is) (c.in-Ok.ensures.ok p lives))
 
 pub returns-in-Ok-clause-makes : goal.returns-in-Ok-clause-makes
-returns-in-Ok-clause-makes g c = makes_within g.G.Pages _ c.reserve.ensures.makes (λ commits. c.reserve.ensures.among) tt
+returns-in-Ok-clause-makes g c = makes_within g.G.PageStore _ c.reserve.ensures.makes (λ commits. c.reserve.ensures.among) tt
 
 pub returns-in-Err-clause-made : goal.returns-in-Err-clause-made
 returns-in-Err-clause-made g c =
-    makes_broke g.G.Pages c.in-Err.ensures.settles (λ p lives.
+    makes_broke g.G.PageStore c.in-Err.ensures.settles (λ p lives.
     then_succeeds (within g (goal.at.returns-in-Err-clause-made g c).After-can_charge p lives) c.can_charge.ensures c.if-not-can_charge.false)
 
 pub returns-in-Err-clause-makes : goal.returns-in-Err-clause-makes
-returns-in-Err-clause-makes g c = makes_within g.G.Pages _ c.reserve.ensures.makes (λ commits. c.reserve.ensures.among) c.in-Err.ensures.makes.idle
+returns-in-Err-clause-makes g c = makes_within g.G.PageStore _ c.reserve.ensures.makes (λ commits. c.reserve.ensures.among) c.in-Err.ensures.makes.idle
 
 pub returns-in-None-clause-makes : goal.returns-in-None-clause-makes
-returns-in-None-clause-makes g c = makes_none g.G.Pages _ c.args.g.now
+returns-in-None-clause-makes g c = makes_none g.G.PageStore _ c.args.g.now
 
 pub returns-then-not-can_charge-clause-makes : goal.returns-then-not-can_charge-clause-makes
-returns-then-not-can_charge-clause-makes g c = makes_none g.G.Pages _ c.args.g.now
+returns-then-not-can_charge-clause-makes g c = makes_none g.G.PageStore _ c.args.g.now

@@ -13,7 +13,7 @@ asked g c = is_right c.has.ensures c.if-not-has.false c.are_alloc_parameters.ens
 pub returns-then-is_reserving-clause-done : goal.returns-then-is_reserving-clause-done
 returns-then-is_reserving-clause-done g c =
     let a = asked g (goal.at.returns-then-is_reserving-clause-done g c).After-is_reserving in
-    answers-by g.G.Pages _ c.args.t.now c.args.g.now c.requires.begins.fits c.args.pid a.process _ a.lives
+    answers-by g.G.PageStore _ c.args.t.now c.args.g.now c.requires.begins.fits c.args.pid a.process _ a.lives
     (alloc_reserves c.args.t.now c.args.pid.0 c.args.addr c.args.size c.args.kind c.args.prot a.process c.plain_type-plain.result a.lives c.plain_type-plain.ensures a.parameters
     c.is_watched_type-watched.result c.is_watched_type-watched.ensures (sym c.is_reserving.ensures ∙ c.if-is_reserving.true))
     c.reserve.result c.reserve.new.t c.reserve.new.g c.reserve.ensures.made.done
@@ -21,7 +21,7 @@ returns-then-is_reserving-clause-done g c =
 pub returns-else-is_reserving-clause-done : goal.returns-else-is_reserving-clause-done
 returns-else-is_reserving-clause-done g c =
     let a = asked g (goal.at.returns-else-is_reserving-clause-done g c).After-is_reserving in
-    answers-by g.G.Pages _ c.args.t.now c.args.g.now c.requires.begins.fits c.args.pid a.process _ a.lives
+    answers-by g.G.PageStore _ c.args.t.now c.args.g.now c.requires.begins.fits c.args.pid a.process _ a.lives
     (alloc_commits c.args.t.now c.args.pid.0 c.args.addr c.args.size c.args.kind c.args.prot a.process c.plain_type-plain.result a.lives c.plain_type-plain.ensures a.parameters (sym c.is_reserving.ensures ∙ c.if-is_reserving.false)
     ∙ ap (λ (range : Range). commit_pages blank c.args.t.now c.args.pid.0 a.process range c.args.prot) (sym c.of.ensures))
     c.commit.result c.commit.new.t c.commit.new.g c.commit.ensures.done
@@ -45,7 +45,7 @@ returns-else-is_reserving-clause-no_memory g c none =
     (subst (λ (range : Range). charge t < charge (commit_pages blank t c.args.pid.0 a.process range c.args.prot).world) c.of.ensures (more a.process a.lives)) none))
 
 pub returns-then-not-has-clause-makes : goal.returns-then-not-has-clause-makes
-returns-then-not-has-clause-makes g c = makes_none g.G.Pages _ c.args.g.now
+returns-then-not-has-clause-makes g c = makes_none g.G.PageStore _ c.args.g.now
 
 pub returns-then-not-are_alloc_parameters-clause-makes : goal.returns-then-not-are_alloc_parameters-clause-makes
-returns-then-not-are_alloc_parameters-clause-makes g c = makes_none g.G.Pages _ c.args.g.now
+returns-then-not-are_alloc_parameters-clause-makes g c = makes_none g.G.PageStore _ c.args.g.now

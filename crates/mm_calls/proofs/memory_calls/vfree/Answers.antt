@@ -15,7 +15,7 @@ pub returns-in-None-clause-done : goal.returns-in-None-clause-done
 returns-in-None-clause-done g c =
     let t = c.args.t.now in
     let a = asked g (goal.at.returns-in-None-clause-done g c).After-freed_pages in
-    answers g.G.Pages _ t c.args.g.now c.requires.begins.fits _ t c.args.g.now (settled_same t _ _ c.requires.begins.fits)
+    answers g.G.PageStore _ t c.args.g.now c.requires.begins.fits _ t c.args.g.now (settled_same t _ _ c.requires.begins.fits)
     (frees_none t c.args.pid.0 c.args.addr c.args.size c.args.kind a.process a.lives a.parameters (sym (c.freed_pages.ensures a.process a.lives) ∙ c.in-None.is))
 
 pub release-requires-clause-there : goal.release-requires-clause-there
@@ -27,7 +27,7 @@ pub returns-then-kind-clause-done : goal.returns-then-kind-clause-done
 returns-then-kind-clause-done g c =
     let t = c.args.t.now in
     let a = asked g (goal.at.returns-then-kind-clause-done g c).After-freed_pages in
-    answers g.G.Pages _ t c.args.g.now c.requires.begins.fits _ c.release.new.self c.release.new.g c.release.ensures.frees.settled
+    answers g.G.PageStore _ t c.args.g.now c.requires.begins.fits _ c.release.new.self c.release.new.g c.release.ensures.frees.settled
     (releases t c.args.pid.0 c.args.addr c.args.size c.args.kind a.process a.lives a.parameters c.in-Some.range (sym (c.freed_pages.ensures a.process a.lives) ∙ c.in-Some.is) c.if-kind.true c.release.new.self
     (λ r at. c.release.ensures.changed a.process r a.lives at))
 
@@ -47,5 +47,5 @@ returns-clause-done g c =
     let t = c.args.t.now in
     let a = asked g (goal.at.returns-clause-done g c).After-freed_pages in
     let d = decommits t c.args.pid.0 c.args.addr c.args.size c.args.kind a.process a.lives a.parameters c.in-Some.range (sym (c.freed_pages.ensures a.process a.lives) ∙ c.in-Some.is) c.if-kind.false c.sound.ensures.sound in
-    answers g.G.Pages _ t c.args.g.now c.requires.begins.fits _ c.decommit.new.self c.decommit.new.g c.decommit.ensures.frees.settled
+    answers g.G.PageStore _ t c.args.g.now c.requires.begins.fits _ c.decommit.new.self c.decommit.new.g c.decommit.ensures.frees.settled
     (d.is ∙ ap (λ (w : Tables). done answer.Ok w) (sym (c.decommit.ensures.changed a.process d.region a.lives d.around)))

@@ -22,10 +22,10 @@ pub commit-requires-clause-ready : goal.commit-requires-clause-ready
 commit-requires-clause-ready g c =
     let t = c.args.t.now in
     let pid = c.stack.inside.pid.0 in
-    let new = g.G.Pages.contents c.reserve.new.self in
-    let z = g.G.Pages.store c.reserve.new.self in
+    let new = g.G.PageStore.contents c.reserve.new.self in
+    let z = g.G.PageStore.store c.reserve.new.self in
     let before : FitsTables t new z =
-    roomier_fits t (g.G.Pages.contents c.args.g.now) new (g.G.Pages.store c.args.g.now) z c.requires.ready.fits c.reserve.ensures.contents c.reserve.ensures.store c.reserve.ensures.later in
+    roomier_fits t (g.G.PageStore.contents c.args.g.now) new (g.G.PageStore.store c.args.g.now) z c.requires.ready.fits c.reserve.ensures.contents c.reserve.ensures.store c.reserve.ensures.later in
     let fits = c.take_guard_off.ensures.fits new z before in
     record {
       fits = fits;
@@ -46,7 +46,7 @@ unreachable-requires g c =
     c.take_guard_off.ensures.off p.0 k.0 (ap (λ n. process_of t n) ns ∙ p.1) (ap (λ n. committed_at t p.0.regions n) ms ∙ k.1) ∙ (λ i. guard_off t (ns i) p.0 k.0 (ms i)) in
     let next : c.of-next.result ≡ range_of (address_of (s.guard_page - 1)) 1 = c.of-next.ensures ∙ (λ i. range_of (address_of (ms i - 1)) 1) in
     let ok : IsOk c.commit.result =
-    c.commit.ensures.enough (room_there t s.pid s.guard_page p.0 k.0 p.1 k.1 v off c.of-next.result next c.total_with_one-total.result (g.G.Pages.store c.reserve.new.self).room
+    c.commit.ensures.enough (room_there t s.pid s.guard_page p.0 k.0 p.1 k.1 v off c.of-next.result next c.total_with_one-total.result (g.G.PageStore.store c.reserve.new.self).room
     c.total_with_one-total.ensures.total c.in_ok-reserve.ensures.ok) in
     search rules
 
@@ -73,7 +73,7 @@ returns-in_err-reserve-clause-makes g c = record {
 
 pub returns-clause-makes : goal.returns-clause-makes
 returns-clause-makes g c = record {
-  passes = idle_before g.G.Pages.unpaged Makes (g.G.Pages.store c.args.g.now) (g.G.Pages.store c.reserve.new.self) (g.G.Pages.store c.commit.new.g) (g.G.Pages.behind c.args.g.now) (g.G.Pages.behind c.reserve.new.self) (g.G.Pages.behind c.commit.new.g) c.reserve.ensures.passes c.commit.ensures.makes.passes;
+  passes = idle_before g.G.PageStore.unpaged Makes (g.G.PageStore.store c.args.g.now) (g.G.PageStore.store c.reserve.new.self) (g.G.PageStore.store c.commit.new.g) (g.G.PageStore.behind c.args.g.now) (g.G.PageStore.behind c.reserve.new.self) (g.G.PageStore.behind c.commit.new.g) c.reserve.ensures.passes c.commit.ensures.makes.passes;
   idle = tt;
   loans = c.commit.ensures.makes.loans ∙ c.reserve.ensures.loans;
 }

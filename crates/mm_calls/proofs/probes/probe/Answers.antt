@@ -37,7 +37,7 @@ returns-then-page-stack-clause-done g c =
       on = not_false c.in-Some-committed_row.row.guard c.if-not-row.false;
     } in
     let v = c.take_guard_off.new.self in
-    answers g.G.Pages _ t c.args.g.now c.requires.begins.fits _ v c.args.g.now (settled_same v _ _ (c.take_guard_off.ensures.fits _ _ c.requires.begins.fits))
+    answers g.G.PageStore _ t c.args.g.now c.requires.begins.fits _ v c.args.g.now (settled_same v _ _ (c.take_guard_off.ensures.fits _ _ c.requires.begins.fits))
     (of_other t c.args.tid.0 c.args.addr s _ guard (λ e. c.if-page-stack.true (e ∙ sym (ap (λ (s : StackOf). s.guard_page) c.stack.view_is))) v
     (takes_off t s.pid c.stack.inside.pid.0 page page v (ap (λ (s : StackOf). s.pid) c.stack.view_is) refl c.take_guard_off.ensures.off))
 
@@ -47,7 +47,7 @@ returns-then-is_overflow-clause-done g c =
     let s = c.in-Some.stack in
     let m = meets g (goal.at.returns-then-is_overflow-clause-done g c).After-is_overflow in
     let v = c.take_guard_off-then-is_overflow.new.self in
-    answers g.G.Pages _ t c.args.g.now c.requires.begins.fits _ v c.args.g.now (settled_same v _ _ (c.take_guard_off-then-is_overflow.ensures.fits _ _ c.requires.begins.fits))
+    answers g.G.PageStore _ t c.args.g.now c.requires.begins.fits _ v c.args.g.now (settled_same v _ _ (c.take_guard_off-then-is_overflow.ensures.fits _ _ c.requires.begins.fits))
     (of_overflow t c.args.tid.0 c.args.addr s _ m.guard m.here (λ p lives. sym (c.is_overflow.ensures p lives) ∙ c.if-is_overflow.true) v
     (takes_off t s.pid c.stack.inside.pid.0 s.guard_page c.stack.inside.guard_page v (ap (λ (s : StackOf). s.pid) c.stack.view_is) (ap (λ (s : StackOf). s.guard_page) c.stack.view_is) c.take_guard_off-then-is_overflow.ensures.off))
 
@@ -68,33 +68,33 @@ returns-in_err-grow-clause-no_memory g c same =
 pub returns-clause-done : goal.returns-clause-done
 returns-clause-done g c =
     let m = meets g (goal.at.returns-clause-done g c).After-is_overflow in
-    answers g.G.Pages _ c.args.t.now c.args.g.now c.requires.begins.fits _ c.lower.new.t c.grow.new.g (settled_then _ _ _ _ _ _ c.lower.ensures.fits c.grow.ensures.settles.settled)
+    answers g.G.PageStore _ c.args.t.now c.args.g.now c.requires.begins.fits _ c.lower.new.t c.grow.new.g (settled_then _ _ _ _ _ _ c.lower.ensures.fits c.grow.ensures.settles.settled)
     (of_growth c.args.t.now c.args.tid.0 c.args.addr c.in-Some.stack _ m.guard m.here (λ p lives. sym (c.is_overflow.ensures p lives) ∙ c.if-is_overflow.false)
     c.grow.new.t c.lower.new.t c.in_ok-grow.ensures.ok c.lower.ensures.lowered c.lower.result c.lower.ensures.answer)
 
 pub returns-in_err-grow-clause-makes : goal.returns-in_err-grow-clause-makes
-returns-in_err-grow-clause-makes g c = makes_as g.G.Pages _ c.grow.ensures.makes (on_err c.from_residual.result c.in_err-grow.ensures.makes.idle)
+returns-in_err-grow-clause-makes g c = makes_as g.G.PageStore _ c.grow.ensures.makes (on_err c.from_residual.result c.in_err-grow.ensures.makes.idle)
 
 pub returns-clause-makes : goal.returns-clause-makes
-returns-clause-makes g c = makes_as g.G.Pages _ c.grow.ensures.makes tt
+returns-clause-makes g c = makes_as g.G.PageStore _ c.grow.ensures.makes tt
 
 pub returns-in-None-clause-makes : goal.returns-in-None-clause-makes
-returns-in-None-clause-makes g c = makes_none g.G.Pages _ c.args.g.now
+returns-in-None-clause-makes g c = makes_none g.G.PageStore _ c.args.g.now
 
 pub returns-then-not-has-clause-makes : goal.returns-then-not-has-clause-makes
-returns-then-not-has-clause-makes g c = makes_none g.G.Pages _ c.args.g.now
+returns-then-not-has-clause-makes g c = makes_none g.G.PageStore _ c.args.g.now
 
 pub returns-in-None-committed_row-clause-makes : goal.returns-in-None-committed_row-clause-makes
-returns-in-None-committed_row-clause-makes g c = makes_none g.G.Pages _ c.args.g.now
+returns-in-None-committed_row-clause-makes g c = makes_none g.G.PageStore _ c.args.g.now
 
 pub returns-then-not-permits-clause-makes : goal.returns-then-not-permits-clause-makes
-returns-then-not-permits-clause-makes g c = makes_none g.G.Pages _ c.args.g.now
+returns-then-not-permits-clause-makes g c = makes_none g.G.PageStore _ c.args.g.now
 
 pub returns-then-not-row-clause-makes : goal.returns-then-not-row-clause-makes
-returns-then-not-row-clause-makes g c = makes_none g.G.Pages _ c.args.g.now
+returns-then-not-row-clause-makes g c = makes_none g.G.PageStore _ c.args.g.now
 
 pub returns-then-page-stack-clause-makes : goal.returns-then-page-stack-clause-makes
-returns-then-page-stack-clause-makes g c = makes_none g.G.Pages _ c.args.g.now
+returns-then-page-stack-clause-makes g c = makes_none g.G.PageStore _ c.args.g.now
 
 pub returns-then-is_overflow-clause-makes : goal.returns-then-is_overflow-clause-makes
-returns-then-is_overflow-clause-makes g c = makes_none g.G.Pages _ c.args.g.now
+returns-then-is_overflow-clause-makes g c = makes_none g.G.PageStore _ c.args.g.now

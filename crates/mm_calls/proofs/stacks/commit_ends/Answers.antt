@@ -81,8 +81,8 @@ returns-clause-passes g c =
     let below : c.pages-2.result.first ≡ guard = ap (λ (r : Range). r.first) one in
     let count : c.pages-2.result.count ≡ 1 = ap (λ (r : Range). r.count) one in
     let is : guard ≡ c.args.range.first + c.args.range.count - (c.args.top + 1) = c.guard_of-guard.ensures.guard in
-    subst (λ (n : ℕ). PassesIn g.G.Pages.unpaged (Turns (MakesStack n)) (g.G.Pages.store c.args.g.now) (g.G.Pages.store c.commit_new-2.new.g) (g.G.Pages.behind c.args.g.now) (g.G.Pages.behind c.commit_new-2.new.g)) is
-    (stack_then g.G.Pages.unpaged guard (g.G.Pages.store c.args.g.now) (g.G.Pages.store c.commit_new.new.g) (g.G.Pages.store c.commit_new-2.new.g)
-    (g.G.Pages.behind c.args.g.now) (g.G.Pages.behind c.commit_new.new.g) (g.G.Pages.behind c.commit_new-2.new.g)
+    subst (λ (n : ℕ). PassesIn g.G.PageStore.unpaged (Turns (MakesStack n)) (g.G.PageStore.store c.args.g.now) (g.G.PageStore.store c.commit_new-2.new.g) (g.G.PageStore.behind c.args.g.now) (g.G.PageStore.behind c.commit_new-2.new.g)) is
+    (stack_then g.G.PageStore.unpaged guard (g.G.PageStore.store c.args.g.now) (g.G.PageStore.store c.commit_new.new.g) (g.G.PageStore.store c.commit_new-2.new.g)
+    (g.G.PageStore.behind c.args.g.now) (g.G.PageStore.behind c.commit_new.new.g) (g.G.PageStore.behind c.commit_new-2.new.g)
     (c.commit_new.ensures.makes.passes (guard + 1) (2 ^ 32) (omega (arith, first), c.commit_new.ensures.makes.among.1))
     (c.commit_new-2.ensures.makes.passes guard (guard + 1) (omega (arith, below), omega (arith, below, count))))

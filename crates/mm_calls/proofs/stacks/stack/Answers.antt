@@ -24,7 +24,7 @@ pub returns-then-not-can_charge-clause-done : goal.returns-then-not-can_charge-c
 returns-then-not-can_charge-clause-done g c =
     let t = c.args.t.now in
     let p = some_found (process_of t c.args.pid.0) (sym c.has.ensures ∙ c.if-not-has.false) in
-    answers g.G.Pages _ t c.args.g.now c.requires.begins.fits _ t c.args.g.now (settled_same t _ _ c.requires.begins.fits)
+    answers g.G.PageStore _ t c.args.g.now c.requires.begins.fits _ t c.args.g.now (settled_same t _ _ c.requires.begins.fits)
     (past_limit (within g (goal.at.returns-then-not-can_charge-clause-done g c).After-can_charge p.0 p.1) c.can_charge.ensures c.if-not-can_charge.true)
 
 pub returns-clause-done : goal.returns-clause-done
@@ -32,7 +32,7 @@ returns-clause-done g c =
     let t = c.args.t.now in
     let range : Range = c.in-Some.range in
     let p = some_found (process_of t c.args.pid.0) (sym c.has.ensures ∙ c.if-not-has.false) in
-    answers g.G.Pages _ t c.args.g.now c.requires.begins.fits _ c.begin.new.t c.make_region.new.g (settled_then _ _ _ _ _ _ c.begin.ensures.fits c.make_region.ensures.settles.settled)
+    answers g.G.PageStore _ t c.args.g.now c.requires.begins.fits _ c.begin.new.t c.make_region.new.g (settled_then _ _ _ _ _ _ c.begin.ensures.fits c.make_region.ensures.settles.settled)
     (then_made (within g (goal.at.returns-clause-done g c).After-can_charge p.0 p.1) c.can_charge.ensures c.if-not-can_charge.false c.begin.ensures.answer
     (c.begin.ensures.begun
     ∙ ap (λ (u : Tables). set_stack u c.args.tid.0 (record { pid = c.args.pid.0; base = range.first; guard_page = range.first + range.count - (c.commit_pages-top.result + 1) })) (c.in_ok-make_region.ensures.ok p.0 p.1)))
@@ -42,7 +42,7 @@ returns-clause-passes g c =
     let range : Range = c.in-Some.range in
     let guard = range.first + range.count - (c.commit_pages-top.result + 1) in
     let told : guard_told c.begin.result ≡ guard = ap guard_told c.begin.ensures.answer ∙ page_of-address_of guard in
-    subst (λ (n : ℕ). PassesIn g.G.Pages.unpaged (Turns (MakesStack n)) (g.G.Pages.store c.args.g.now) (g.G.Pages.store c.make_region.new.g) (g.G.Pages.behind c.args.g.now) (g.G.Pages.behind c.make_region.new.g))
+    subst (λ (n : ℕ). PassesIn g.G.PageStore.unpaged (Turns (MakesStack n)) (g.G.PageStore.store c.args.g.now) (g.G.PageStore.store c.make_region.new.g) (g.G.PageStore.behind c.args.g.now) (g.G.PageStore.behind c.make_region.new.g))
     (sym told) c.make_region.ensures.makes.passes
 
 pub returns-in_err-make_region-clause-no_memory : goal.returns-in_err-make_region-clause-no_memory

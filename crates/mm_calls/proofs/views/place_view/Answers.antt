@@ -23,14 +23,14 @@ returns-in-None-clause-ok g c p s lives at_place at_section =
     (ap (λ rs. placed (ranges_of rs) c.args.addr (record { first = page_of c.args.addr; count = c.args.count }) c.args.count) (sym (c.space.ensures p lives)) ∙ sym c.in-None.ensures.found)
 
 pub returns-in-None-clause-settles : goal.returns-in-None-clause-settles
-returns-in-None-clause-settles g c = stays_settled g.G.Pages c.requires.ready.fits _
+returns-in-None-clause-settles g c = stays_settled g.G.PageStore c.requires.ready.fits _
 
 pub returns-then-not-can_charge-clause-ok : goal.returns-then-not-can_charge-clause-ok
 returns-then-not-can_charge-clause-ok g c p s lives at_place at_section =
     past_limit (within g (goal.at.returns-then-not-can_charge-clause-ok g c).After-can_charge p s lives) c.can_charge.ensures c.if-not-can_charge.true
 
 pub returns-then-not-can_charge-clause-settles : goal.returns-then-not-can_charge-clause-settles
-returns-then-not-can_charge-clause-settles g c = stays_settled g.G.Pages c.requires.ready.fits _
+returns-then-not-can_charge-clause-settles g c = stays_settled g.G.PageStore c.requires.ready.fits _
 
 pub returns-in-Ok-clause-ok : goal.returns-in-Ok-clause-ok
 returns-in-Ok-clause-ok g c p s lives at_place at_section =
@@ -48,7 +48,7 @@ pub returns-in-Err-clause-settles : goal.returns-in-Err-clause-settles
 returns-in-Err-clause-settles g c = record { err = c.in-Err.ensures.settles.err; settled = c.add_view.ensures.settles.settled }
 
 pub returns-in-None-clause-idles : goal.returns-in-None-clause-idles
-returns-in-None-clause-idles g c = stays_idle g.G.Pages c.args.g.now
+returns-in-None-clause-idles g c = stays_idle g.G.PageStore c.args.g.now
 
 pub returns-then-not-can_charge-clause-idles : goal.returns-then-not-can_charge-clause-idles
-returns-then-not-can_charge-clause-idles g c = stays_idle g.G.Pages c.args.g.now
+returns-then-not-can_charge-clause-idles g c = stays_idle g.G.PageStore c.args.g.now

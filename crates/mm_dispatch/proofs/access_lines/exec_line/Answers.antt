@@ -22,9 +22,9 @@ returns-in-Ok-clause-done g c =
     let began = c.in-Some.ensures.entered in
     let can = began.can (touch c.in-Some.row.key) in
     let t = c.enter.new.t in
-    let old = key_bytes (g.G.Pages.contents c.enter.new.g) in
-    line-made g.G.Pages c.args.pid c.args.addr Execute began.on began.same
-    (access-had g.G.Pages t c.args.pid c.args.addr Execute c.fetch.result (touch c.in-Some.row.key) (execute-needs t old c.args.pid.0 c.args.addr c.in-Some.row can.admitted) c.fetch.ensures.ends c.fetch.ensures.touched (touches_tell _ _ _)
+    let old = key_bytes (g.G.PageStore.contents c.enter.new.g) in
+    line-made g.G.PageStore c.args.pid c.args.addr Execute began.on began.same
+    (access-had g.G.PageStore t c.args.pid c.args.addr Execute c.fetch.result (touch c.in-Some.row.key) (execute-needs t old c.args.pid.0 c.args.addr c.in-Some.row can.admitted) c.fetch.ensures.ends c.fetch.ensures.touched (touches_tell _ _ _)
     t c.fetch.ensures.touched.fits can.keeps.few c.in-Ok.field-0 c.in-Ok.is answer.Ok gives_ok
     (executes t old c.args.pid.0 c.args.addr c.in-Some.row can.admitted ∙ (λ i. done answer.Ok (world_with t (key_bytes (sym c.fetch.ensures.contents i))))))
 
@@ -33,8 +33,8 @@ returns-in-Err-clause-done g c =
     let began = c.in-Some.ensures.entered in
     let can = began.can (touch c.in-Some.row.key) in
     let t = c.enter.new.t in
-    let old = key_bytes (g.G.Pages.contents c.enter.new.g) in
-    line-made g.G.Pages c.args.pid c.args.addr Execute began.on began.same
-    (access-lost g.G.Pages t c.args.pid c.args.addr Execute c.fetch.result (touch c.in-Some.row.key) (execute-needs t old c.args.pid.0 c.args.addr c.in-Some.row can.admitted) c.fetch.ensures.ends c.fetch.ensures.touched (touches_tell _ _ _)
+    let old = key_bytes (g.G.PageStore.contents c.enter.new.g) in
+    line-made g.G.PageStore c.args.pid c.args.addr Execute began.on began.same
+    (access-lost g.G.PageStore t c.args.pid c.args.addr Execute c.fetch.result (touch c.in-Some.row.key) (execute-needs t old c.args.pid.0 c.args.addr c.in-Some.row can.admitted) c.fetch.ensures.ends c.fetch.ensures.touched (touches_tell _ _ _)
     t c.fetch.ensures.touched.fits can.keeps.few c.in-Err.field-0 c.in-Err.is
     (λ i. world_with t (key_bytes (c.fetch.ensures.contents i))))

@@ -12,4 +12,4 @@ read_at-requires-clause-can g c = c.in-Some.ensures.entered.can _
 pub returns-in-Some-clause-done : goal.returns-in-Some-clause-done
 returns-in-Some-clause-done g c =
     let began = c.in-Some.ensures.entered in
-    line-made g.G.Pages c.args.pid c.args.addr (ReadOf c.args.len) began.on began.same c.read_at.ensures.done
+    line-made g.G.PageStore c.args.pid c.args.addr (ReadOf c.args.len) began.on began.same c.read_at.ensures.done

@@ -12,4 +12,4 @@ write_row-requires-clause-can g c = c.in-Some.ensures.entered.can _
 pub returns-in-Some-clause-done : goal.returns-in-Some-clause-done
 returns-in-Some-clause-done g c =
     let began = c.in-Some.ensures.entered in
-    line-made g.G.Pages c.args.pid c.args.addr (WriteOf c.args.bytes.now) began.on began.same c.write_row.ensures.done
+    line-made g.G.PageStore c.args.pid c.args.addr (WriteOf c.args.bytes.now) began.on began.same c.write_row.ensures.done

@@ -9,6 +9,6 @@ returns g c =
     let is = c.kind_if.ensures.is in
     record {
       lives = c.has-lives.ensures;
-      starts = subst (λ (k : LineKind). StartsLine g.G.Pages c.args.line k c.args.g.now c.begin.new.g) is c.begin.ensures.starts;
+      starts = subst (λ (k : LineKind). StartsLine g.G.PageStore c.args.line k c.args.g.now c.begin.new.g) is c.begin.ensures.starts;
       form = λ on. c.begin.ensures.form ∙ is ∙ ap (λ b. cond b c.args.form kind.Call) on;
     }

@@ -8,7 +8,7 @@ returns g c =
     let on = c.begin_on.ensures in
     record {
       sound = c.sound.ensures.sound;
-      starts = subst (λ (b : Bool). StartsLine g.G.Pages c.args.line (cond b (kind.Unbind c.args.pid) kind.Call) c.args.g.now c.begin_on.new.g) on.lives on.starts;
+      starts = subst (λ (b : Bool). StartsLine g.G.PageStore c.args.line (cond b (kind.Unbind c.args.pid) kind.Call) c.args.g.now c.begin_on.new.g) on.lives on.starts;
       keeps = on.starts.keeps c.args.t.now c.requires.next.keeps;
       form = λ h. on.form (on.lives ∙ h);
     }

@@ -16,19 +16,19 @@ use Rattle.mm_dispatch.proofs.deciding.process_line.Goals as goal
 pub returns-in-None : goal.returns-in-None
 returns-in-None g c =
     let t = c.args.t.now in
-    let old = g.G.Pages.contents c.args.g.now in
-    let new = g.G.Pages.contents c.begin_call.new.g in
-    let m = g.G.Pages.store c.begin_call.new.g in
+    let old = g.G.PageStore.contents c.args.g.now in
+    let new = g.G.PageStore.contents c.begin_call.new.g in
+    let m = g.G.PageStore.store c.begin_call.new.g in
     let fits = c.begin_call.ensures.keeps.fits in
     record {
       done = record {
-        decided = decided-call g.G.Pages.unpaged (event.Process c.args.min c.args.max) c.args.line t old _ m answer.Full t new m
+        decided = decided-call g.G.PageStore.unpaged (event.Process c.args.min c.args.max) c.args.line t old _ m answer.Full t new m
             (new_process t) c.requires.next.keeps c.requires.next.line_is c.begin_call.ensures.starts.begins (quiet-same _ _ refl)
             (new_process_across t (key_bytes old) c.sound.ensures.sound.spaces) (in_new_process t) refl tt tt
             (subst (λ (old : Key → Option Page). Called (new_process t) t old answer.Full t new) c.begin_call.ensures.starts.contents
             (record { outcome = full-process t (none-if _ _ c.next_pid.result c.in-None.is c.next_pid.ensures); bytes = bytes-kept t t new fits.live fits.live })) fits;
-        marked = marked_alone c.args.line kind.Call (event.Process c.args.min c.args.max) (world_with c.args.t.now (key_bytes (g.G.Pages.contents c.args.g.now))) answer.Full (world_with c.args.t.now (key_bytes (g.G.Pages.contents c.begin_call.new.g))) g.G.Pages.unpaged
-            (g.G.Pages.store c.args.g.now) (g.G.Pages.store c.begin_call.new.g) (g.G.Pages.behind c.args.g.now) (g.G.Pages.behind c.begin_call.new.g)
+        marked = marked_alone c.args.line kind.Call (event.Process c.args.min c.args.max) (world_with c.args.t.now (key_bytes (g.G.PageStore.contents c.args.g.now))) answer.Full (world_with c.args.t.now (key_bytes (g.G.PageStore.contents c.begin_call.new.g))) g.G.PageStore.unpaged
+            (g.G.PageStore.store c.args.g.now) (g.G.PageStore.store c.begin_call.new.g) (g.G.PageStore.behind c.args.g.now) (g.G.PageStore.behind c.begin_call.new.g)
             (record { ages = λ ms. refl; waits = λ ws l. refl }) refl c.begin_call.ensures.starts.passes;
       };
       broke = tt;
@@ -42,24 +42,24 @@ new_process-requires g c = record { begins = record { starts = search rules; las
 pub returns : goal.returns
 returns g c =
     let t = c.args.t.now in
-    let old = g.G.Pages.contents c.args.g.now in
+    let old = g.G.PageStore.contents c.args.g.now in
     let call = c.new_process in
-    let new = g.G.Pages.contents call.new.g in
+    let new = g.G.PageStore.contents call.new.g in
     record {
       done = if-ok call.result call.ensures.done (λ a h. record {
-        decided = decided-call g.G.Pages.unpaged (event.Process c.args.min c.args.max) c.args.line t old _ (g.G.Pages.store c.line.new.self) a call.new.t new (g.G.Pages.store call.new.g)
+        decided = decided-call g.G.PageStore.unpaged (event.Process c.args.min c.args.max) c.args.line t old _ (g.G.PageStore.store c.line.new.self) a call.new.t new (g.G.PageStore.store call.new.g)
             (new_process t) c.requires.next.keeps c.requires.next.line_is (begins-line _ _ _ _ c.line.ensures.store) (quiet-beside _ _ h.beside)
             (new_process_across t (key_bytes old) c.sound.ensures.sound.spaces) (in_new_process t) refl tt tt
             (subst (λ (old : Key → Option Page). Called (new_process t) t old a call.new.t new) c.line.ensures.contents h.called) h.fits;
-        marked = subst (λ (k : LineKind). g.G.Pages.unpaged ≡ false → MarkedAs k (event.Process c.args.min c.args.max) c.args.line (world_with c.args.t.now (key_bytes (g.G.Pages.contents c.args.g.now))) (g.G.Pages.store c.args.g.now) (g.G.Pages.behind c.args.g.now) a (world_with call.new.t (key_bytes (g.G.Pages.contents call.new.g))) (g.G.Pages.store call.new.g) (g.G.Pages.behind call.new.g))
-            (process_kind c.args.t.now (g.G.Pages.contents c.line.new.self) (g.G.Pages.contents call.new.g) c.in-Some.pid c.next_pid.result a call.new.t c.args.min c.args.max c.in-Some.is c.next_pid.ensures h.called)
-            (marked_still c.args.line (kind.Process c.in-Some.pid c.args.min c.args.max) (event.Process c.args.min c.args.max) (world_with c.args.t.now (key_bytes (g.G.Pages.contents c.args.g.now))) a (world_with call.new.t (key_bytes (g.G.Pages.contents call.new.g))) g.G.Pages.unpaged
-            (g.G.Pages.store c.args.g.now) (g.G.Pages.store c.line.new.self) (g.G.Pages.store call.new.g) (g.G.Pages.behind c.args.g.now) (g.G.Pages.behind c.line.new.self) (g.G.Pages.behind call.new.g)
+        marked = subst (λ (k : LineKind). g.G.PageStore.unpaged ≡ false → MarkedAs k (event.Process c.args.min c.args.max) c.args.line (world_with c.args.t.now (key_bytes (g.G.PageStore.contents c.args.g.now))) (g.G.PageStore.store c.args.g.now) (g.G.PageStore.behind c.args.g.now) a (world_with call.new.t (key_bytes (g.G.PageStore.contents call.new.g))) (g.G.PageStore.store call.new.g) (g.G.PageStore.behind call.new.g))
+            (process_kind c.args.t.now (g.G.PageStore.contents c.line.new.self) (g.G.PageStore.contents call.new.g) c.in-Some.pid c.next_pid.result a call.new.t c.args.min c.args.max c.in-Some.is c.next_pid.ensures h.called)
+            (marked_still c.args.line (kind.Process c.in-Some.pid c.args.min c.args.max) (event.Process c.args.min c.args.max) (world_with c.args.t.now (key_bytes (g.G.PageStore.contents c.args.g.now))) a (world_with call.new.t (key_bytes (g.G.PageStore.contents call.new.g))) g.G.PageStore.unpaged
+            (g.G.PageStore.store c.args.g.now) (g.G.PageStore.store c.line.new.self) (g.G.PageStore.store call.new.g) (g.G.PageStore.behind c.args.g.now) (g.G.PageStore.behind c.line.new.self) (g.G.PageStore.behind call.new.g)
             (record { ages = λ ms. refl; waits = λ ws l. refl }) (λ ms h. h) c.line.ensures.passes call.ensures.idles.passes);
       });
       broke = if-err c.new_process.result c.new_process.ensures.broke (λ h. record {
         idle = idle-still (begins-line _ _ _ _ c.line.ensures.store) c.line.ensures.contents h.store h.tables h.contents;
-        halted = halted_makes c.args.line (kind.Process c.in-Some.pid c.args.min c.args.max) refl g.G.Pages.unpaged (g.G.Pages.store c.args.g.now) (g.G.Pages.store c.line.new.self) (g.G.Pages.store c.new_process.new.g) (g.G.Pages.behind c.args.g.now) (g.G.Pages.behind c.line.new.self) (g.G.Pages.behind c.new_process.new.g) c.line.ensures.passes (c.new_process.ensures.idles.passes Makes);
+        halted = halted_makes c.args.line (kind.Process c.in-Some.pid c.args.min c.args.max) refl g.G.PageStore.unpaged (g.G.PageStore.store c.args.g.now) (g.G.PageStore.store c.line.new.self) (g.G.PageStore.store c.new_process.new.g) (g.G.PageStore.behind c.args.g.now) (g.G.PageStore.behind c.line.new.self) (g.G.PageStore.behind c.new_process.new.g) c.line.ensures.passes (c.new_process.ensures.idles.passes Makes);
       });
       no_memory = call.ensures.no_memory;
       loans = call.ensures.idles.loans ∙ c.line.ensures.loans;

@@ -35,18 +35,18 @@ returns-in-Err-clause-copied g c =
       line = ap (λ (x : StoreOf). x.line) c.in-Err.ensures.err;
       served = c.copy.ensures.served;
       blamed = c.in-Err.ensures.blamed;
-      was_ready = subst (λ (q : Place). IsReady (g.G.Pages.store c.args.g.now) q (copying c.args.row.key q) → false ≡ true) c.place_of.ensures c.in-Err.ensures.was_ready;
+      was_ready = subst (λ (q : Place). IsReady (g.G.PageStore.store c.args.g.now) q (copying c.args.row.key q) → false ≡ true) c.place_of.ensures c.in-Err.ensures.was_ready;
       unpaged = c.in-Err.ensures.unpaged;
-      passes = copies c.args.row.key g.G.Pages.unpaged (Err c.in-Err.fault) (g.G.Pages.store c.args.g.now) (g.G.Pages.store c.copy.new.self) (g.G.Pages.behind c.args.g.now) (g.G.Pages.behind c.copy.new.self) c.place_of.ensures c.in-Err.ensures.passes;
+      passes = copies c.args.row.key g.G.PageStore.unpaged (Err c.in-Err.fault) (g.G.PageStore.store c.args.g.now) (g.G.PageStore.store c.copy.new.self) (g.G.PageStore.behind c.args.g.now) (g.G.PageStore.behind c.copy.new.self) c.place_of.ensures c.in-Err.ensures.passes;
       loans = c.copy.ensures.loans;
     }
 
 pub returns-in-Ok-clause-copied : goal.returns-in-Ok-clause-copied
 returns-in-Ok-clause-copied g c =
     let t = c.args.t.now in
-    let old = g.G.Pages.contents c.args.g.now in
-    let s = g.G.Pages.store c.args.g.now in
-    let z = g.G.Pages.store c.copy.new.self in
+    let old = g.G.PageStore.contents c.args.g.now in
+    let s = g.G.PageStore.store c.args.g.now in
+    let z = g.G.PageStore.store c.copy.new.self in
     let page = page_of c.args.addr in
     let place = place_at c.args.pid page in
     let h = c.requires.can.admitted in
@@ -54,7 +54,7 @@ returns-in-Ok-clause-copied g c =
     let at : key_at t place ≡ Some c.args.row.key =
     key-row t c.args.pid page h.process h.row h.lives h.committed ∙ ap (λ (r : CommittedRow). Some r.key) h.is_told in
     let from = some_found (old c.args.row.key) (key-live t old s c.requires.can.fits place c.args.row.key at) in
-    let contents : g.G.Pages.contents c.copy.new.self ≡ changed same_key old own (Some from.0) =
+    let contents : g.G.PageStore.contents c.copy.new.self ≡ changed same_key old own (Some from.0) =
     c.in-Ok.ensures.copied ∙ (λ i. changed same_key old (c.own_key_of.ensures i) (from.1 i)) in
     let store : z ≡ record (fetched s z) { names = changed same_place s.names place (Some own); paging = changed same_key s.paging own true; paging_keys = s.paging_keys + 1 } =
     c.in-Ok.ensures.ok
@@ -67,20 +67,20 @@ returns-in-Ok-clause-copied g c =
       blamed = tt;
       was_ready = subst (λ (q : Place). IsReady s q (copying c.args.row.key q) → true ≡ true) c.place_of.ensures c.in-Ok.ensures.was_ready;
       unpaged = c.in-Ok.ensures.unpaged;
-      passes = copies c.args.row.key g.G.Pages.unpaged (Ok tt) s z (g.G.Pages.behind c.args.g.now) (g.G.Pages.behind c.copy.new.self) c.place_of.ensures c.in-Ok.ensures.passes;
+      passes = copies c.args.row.key g.G.PageStore.unpaged (Ok tt) s z (g.G.PageStore.behind c.args.g.now) (g.G.PageStore.behind c.copy.new.self) c.place_of.ensures c.in-Ok.ensures.passes;
       loans = c.copy.ensures.loans;
     }
 
 pub returns-in-Ok-clause-own : goal.returns-in-Ok-clause-own
 returns-in-Ok-clause-own g c =
-    let s = g.G.Pages.store c.args.g.now in
+    let s = g.G.PageStore.store c.args.g.now in
     let page = page_of c.args.addr in
     let place = place_at c.args.pid page in
     let own = private_key c.args.pid.0 page in
     record {
-      at = at-named c.copy_page.new.self _ (g.G.Pages.store c.copy.new.self) (returns-in-Ok-clause-copied g c).fits place own
+      at = at-named c.copy_page.new.self _ (g.G.PageStore.store c.copy.new.self) (returns-in-Ok-clause-copied g c).fits place own
           (ap (λ (s : StoreOf). s.names place) c.in-Ok.ensures.ok
           ∙ (λ i. changed same_place s.names (c.place_of.ensures i) (Some (c.own_key_of.ensures i)) place)
           ∙ ap (λ b. cond b (Some own) (s.names place)) (place_itself place));
-      ready = subst (λ (k : Key). IsReady (g.G.Pages.store c.copy.new.self) place (touch k)) c.own_key_of.ensures (subst (λ (q : Place). IsReady (g.G.Pages.store c.copy.new.self) q (touch c.own_key_of.result)) c.place_of.ensures c.in-Ok.ensures.ready);
+      ready = subst (λ (k : Key). IsReady (g.G.PageStore.store c.copy.new.self) place (touch k)) c.own_key_of.ensures (subst (λ (q : Place). IsReady (g.G.PageStore.store c.copy.new.self) q (touch c.own_key_of.result)) c.place_of.ensures c.in-Ok.ensures.ready);
     }

@@ -7,7 +7,7 @@ pub returns-in_err-fetch-clause-touched : goal.returns-in_err-fetch-clause-touch
 returns-in_err-fetch-clause-touched g c =
     let p = err_from_is_err_and c.from_residual.result c.from_residual.ensures.1 in
     let is : c.from_residual.result ≡ Err c.in_err-fetch.field-0.0 = let err = p.1 in let from = p.2 in cc in
-    let passes = touched_err g.G.Pages.unpaged _ _ c.fetch.result _ _ _ _ _ _ c.in_err-fetch.was is c.fetch.ensures.touched.passes in
+    let passes = touched_err g.G.PageStore.unpaged _ _ c.fetch.result _ _ _ _ _ _ c.in_err-fetch.was is c.fetch.ensures.touched.passes in
     search (rules, passes)
 
 pub returns-clause-touched : goal.returns-clause-touched
@@ -20,6 +20,6 @@ returns-clause-touched g c =
       blamed = search rules;
       was_ready = search rules;
       unpaged = search rules;
-      passes = touched_ok g.G.Pages.unpaged _ _ c.fetch.result _ _ _ _ _ _ _ c.in_ok-fetch.was refl did.passes;
+      passes = touched_ok g.G.PageStore.unpaged _ _ c.fetch.result _ _ _ _ _ _ _ c.in_ok-fetch.was refl did.passes;
       loans = did.loans;
     }

@@ -5,10 +5,10 @@ use Rattle.mm_dispatch.proofs.thread_lines.end_access.Goals as goal
 
 pub returns : goal.returns
 returns g c =
-    let mine = g.G.Pages.contents c.args.g.now in
-    let y = g.G.Pages.store c.args.g.now in
-    let new = g.G.Pages.contents c.forget.new.self in
-    let z = g.G.Pages.store c.forget.new.self in
+    let mine = g.G.PageStore.contents c.args.g.now in
+    let y = g.G.PageStore.store c.args.g.now in
+    let new = g.G.PageStore.contents c.forget.new.self in
+    let z = g.G.PageStore.store c.forget.new.self in
     let rest = rest_forgot y z _ c.forget.ensures.store in
     let keeps = keeps-forgot c.args.t.now mine new y z c.requires.keeps c.forget.ensures.contents rest in
     record {

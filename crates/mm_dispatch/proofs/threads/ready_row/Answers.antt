@@ -16,9 +16,9 @@ use Rattle.mm_dispatch.proofs.threads.ready_row.Goals.{After-start}
 needs : (g : given.Over) (c : After-start g) → need_for c.needed.result c.in-Ok.row.key c.place_of.result ≡ row_need c.args.wanted c.in-Ok.row (place_at c.args.pid (page_of c.args.addr))
 needs g c = c.needed.ensures.told c.place_of.result ∙ ap (λ (q : Place). row_need c.args.wanted c.in-Ok.row q) c.place_of.ensures
 
-keeps : (g : given.Over) (c : After-start g) → KeepsOver g.G.Pages c.args.t.now c.start.new.self
+keeps : (g : given.Over) (c : After-start g) → KeepsOver g.G.PageStore c.args.t.now c.start.new.self
 keeps g c =
-    let p = g.G.Pages in
+    let p = g.G.PageStore in
     let x = c.args.g.now in
     let y = c.start.new.self in
     keeps_start c.args.t.now (p.contents x) (p.contents y) (p.store x) (p.store y) c.start.ensures.contents c.start.ensures.store
@@ -26,18 +26,18 @@ keeps g c =
 
 pub returns-in-Err-clause-turned : goal.returns-in-Err-clause-turned
 returns-in-Err-clause-turned g c = λ what is.
-    turns-refused g.G.Pages what c.args.tid.0 c.args.pid c.args.addr c.args.failed c.args.t.now c.args.g.now c.admit.new.t (c.admit.ensures.keeps _ _ c.requires.can.keeps) (answer.Raised c.in-Err.why)
-    (c.in-Err.ensures.refused (key_bytes (g.G.Pages.contents c.args.g.now)) what is)
+    turns-refused g.G.PageStore what c.args.tid.0 c.args.pid c.args.addr c.args.failed c.args.t.now c.args.g.now c.admit.new.t (c.admit.ensures.keeps _ _ c.requires.can.keeps) (answer.Raised c.in-Err.why)
+    (c.in-Err.ensures.refused (key_bytes (g.G.PageStore.contents c.args.g.now)) what is)
 
 pub returns-then-failed-clause-turned : goal.returns-then-failed-clause-turned
 returns-then-failed-clause-turned g c = λ what is.
-    turns-failed g.G.Pages what c.args.tid.0 c.args.pid c.args.addr c.args.failed c.args.t.now c.args.g.now c.admit.new.t (c.admit.ensures.keeps _ _ c.requires.can.keeps) c.args.wanted c.in-Ok.row is
+    turns-failed g.G.PageStore what c.args.tid.0 c.args.pid c.args.addr c.args.failed c.args.t.now c.args.g.now c.admit.new.t (c.admit.ensures.keeps _ _ c.requires.can.keeps) c.args.wanted c.in-Ok.row is
     c.in-Ok.ensures.admitted c.in-Ok.ensures.unchanged c.if-failed.true
 
 pub returns-in-Pending-clause-turned : goal.returns-in-Pending-clause-turned
 returns-in-Pending-clause-turned g c = λ what is.
     let after = (goal.at.returns-in-Pending-clause-turned g c).After-start in
-    let p = g.G.Pages in
+    let p = g.G.PageStore in
     let x = c.args.g.now in
     let y = c.start.new.self in
     let asked = c.in-Pending.ensures in
@@ -52,7 +52,7 @@ returns-in-Pending-clause-turned g c = λ what is.
 pub returns-in-Ready-clause-ready : goal.returns-in-Ready-clause-ready
 returns-in-Ready-clause-ready g c =
     let after = (goal.at.returns-in-Ready-clause-ready g c).After-start in
-    let p = g.G.Pages in
+    let p = g.G.PageStore in
     let x = c.args.g.now in
     let y = c.start.new.self in
     let asked = c.in-Ready.ensures in

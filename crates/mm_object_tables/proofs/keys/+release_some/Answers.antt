@@ -63,7 +63,7 @@ returns-else-range-le-FEW_PAGES g t c =
     record {
       given_up = given_halves h c.args.goes c.args.space.now.regions c.release_some.ensures.given_up c.release_some-else-range-le-FEW_PAGES.ensures.given_up;
       passes = λ held from to among.
-          halves_pass h g.G.Pages.unpaged held from to c.args.pid (g.G.Pages.store c.args.g.now) (g.G.Pages.store c.release_some.new.g) (g.G.Pages.store c.release_some-else-range-le-FEW_PAGES.new.g)
-          (g.G.Pages.behind c.args.g.now) (g.G.Pages.behind c.release_some.new.g) (g.G.Pages.behind c.release_some-else-range-le-FEW_PAGES.new.g) among c.release_some.ensures.passes c.release_some-else-range-le-FEW_PAGES.ensures.passes;
+          halves_pass h g.G.PageStore.unpaged held from to c.args.pid (g.G.PageStore.store c.args.g.now) (g.G.PageStore.store c.release_some.new.g) (g.G.PageStore.store c.release_some-else-range-le-FEW_PAGES.new.g)
+          (g.G.PageStore.behind c.args.g.now) (g.G.PageStore.behind c.release_some.new.g) (g.G.PageStore.behind c.release_some-else-range-le-FEW_PAGES.new.g) among c.release_some.ensures.passes c.release_some-else-range-le-FEW_PAGES.ensures.passes;
       loans = c.release_some-else-range-le-FEW_PAGES.ensures.loans ∙ c.release_some.ensures.loans;
     }

@@ -5,7 +5,7 @@ use Rattle.mm_object_tables.proofs.keys.add_pages.Given as goal
 
 abbrev pub invariant-loop-i : goal.invariant-loop-i
 invariant-loop-i g l = record {
-  adds : Adds l.pid (first_pages l.fn.range l.i) (g.G.Pages.contents l.fn.g) (g.G.Pages.contents l.g) (g.G.Pages.store l.fn.g) (g.G.Pages.store l.g);
-  passes : PassesIn g.G.Pages.unpaged (Turns (MakesFrom l.fn.range.first (l.fn.range.first + l.i))) (g.G.Pages.store l.fn.g) (g.G.Pages.store l.g) (g.G.Pages.behind l.fn.g) (g.G.Pages.behind l.g);
-  loans : g.G.Pages.loans l.g ≡ g.G.Pages.loans l.fn.g;
+  adds : Adds l.pid (first_pages l.fn.range l.i) (g.G.PageStore.contents l.fn.g) (g.G.PageStore.contents l.g) (g.G.PageStore.store l.fn.g) (g.G.PageStore.store l.g);
+  passes : PassesIn g.G.PageStore.unpaged (Turns (MakesFrom l.fn.range.first (l.fn.range.first + l.i))) (g.G.PageStore.store l.fn.g) (g.G.PageStore.store l.g) (g.G.PageStore.behind l.fn.g) (g.G.PageStore.behind l.g);
+  loans : g.G.PageStore.loans l.g ≡ g.G.PageStore.loans l.fn.g;
 }

@@ -14,5 +14,5 @@ returns-clause-emptied g c =
 
 pub returns-clause-passes : goal.returns-clause-passes
 returns-clause-passes g c held from to low high =
-    ends_then g.G.Pages.unpaged held from to to (g.G.Pages.store c.args.g.now) (g.G.Pages.store c.remove_shared.new.g) (g.G.Pages.store c.close_area.new.self) (g.G.Pages.behind c.args.g.now) (g.G.Pages.behind c.remove_shared.new.g) (g.G.Pages.behind c.close_area.new.self)
+    ends_then g.G.PageStore.unpaged held from to to (g.G.PageStore.store c.args.g.now) (g.G.PageStore.store c.remove_shared.new.g) (g.G.PageStore.store c.close_area.new.self) (g.G.PageStore.behind c.args.g.now) (g.G.PageStore.behind c.remove_shared.new.g) (g.G.PageStore.behind c.close_area.new.self)
     (omega (arith, low, high)) (omega arith) (c.remove_shared.ensures.passes held from to low high) (c.close_area.ensures.passes (Ends held to to))

@@ -8,8 +8,8 @@ use Rattle.mm_object_tables.proofs.keys.release_each.Given as goal
 
 abbrev pub invariant-loop-i : goal.invariant-loop-i
 invariant-loop-i g l = record {
-  given_up : GivenUp l.goes l.pid (first_pages l.fn.range l.i) (owned_among (is_owned_at l.space.regions l.fn.range.first) l.i) (g.G.Pages.contents l.fn.g) (g.G.Pages.contents l.g) (g.G.Pages.store l.fn.g) (g.G.Pages.store l.g);
+  given_up : GivenUp l.goes l.pid (first_pages l.fn.range l.i) (owned_among (is_owned_at l.space.regions l.fn.range.first) l.i) (g.G.PageStore.contents l.fn.g) (g.G.PageStore.contents l.g) (g.G.PageStore.store l.fn.g) (g.G.PageStore.store l.g);
   passes : (held : Leaving) → AllHeld held l.pid l.fn.range →
-      PassesIn g.G.Pages.unpaged (Turns (Ends held (page_rank l.fn.range.first) (page_rank (l.fn.range.first + l.i)))) (g.G.Pages.store l.fn.g) (g.G.Pages.store l.g) (g.G.Pages.behind l.fn.g) (g.G.Pages.behind l.g);
-  loans : g.G.Pages.loans l.g ≡ g.G.Pages.loans l.fn.g;
+      PassesIn g.G.PageStore.unpaged (Turns (Ends held (page_rank l.fn.range.first) (page_rank (l.fn.range.first + l.i)))) (g.G.PageStore.store l.fn.g) (g.G.PageStore.store l.g) (g.G.PageStore.behind l.fn.g) (g.G.PageStore.behind l.g);
+  loans : g.G.PageStore.loans l.g ≡ g.G.PageStore.loans l.fn.g;
 }

@@ -21,6 +21,6 @@ returns-then-kind-ne-RESERVE_TYPE-clause-counted g c =
       arith,
       ap (λ (x : StoreOf). x.paging_keys) c.add_pages.ensures.adds.store,
       pages,
-      passing_all (is_page_dead c.args.pid (g.G.Pages.contents c.args.g.now)) range.first range.count (λ j few.
+      passing_all (is_page_dead c.args.pid (g.G.PageStore.contents c.args.g.now)) range.first range.count (λ j few.
           ap not (c.requires.dead (range.first + j) (holds range (range.first + j) (omega arith) (omega (arith, few))))),
     )

@@ -17,19 +17,19 @@ add-requires g c =
 pub loop-i-preserved : goal.loop-i-preserved
 loop-i-preserved g c =
     record {
-      fills = fills_then c.args.area c.loop-i.i (g.G.Pages.contents c.args.g.now) (g.G.Pages.contents c.loop-i.g) (g.G.Pages.contents c.add.new.self) (g.G.Pages.store c.args.g.now) (g.G.Pages.store c.loop-i.g) (g.G.Pages.store c.add.new.self) (next_dead c.requires.can (omega (arith, c.loop-i-test.true)) c.loop-i.invariant.fills) c.loop-i.invariant.fills c.add.ensures.contents c.add.ensures.store;
-      passes = makes_then g.G.Pages.unpaged 0 c.loop-i.i (c.loop-i.i + 1) (g.G.Pages.store c.args.g.now) (g.G.Pages.store c.loop-i.g) (g.G.Pages.store c.add.new.self)
-          (g.G.Pages.behind c.args.g.now) (g.G.Pages.behind c.loop-i.g) (g.G.Pages.behind c.add.new.self) (omega arith) (omega arith) c.loop-i.invariant.passes
+      fills = fills_then c.args.area c.loop-i.i (g.G.PageStore.contents c.args.g.now) (g.G.PageStore.contents c.loop-i.g) (g.G.PageStore.contents c.add.new.self) (g.G.PageStore.store c.args.g.now) (g.G.PageStore.store c.loop-i.g) (g.G.PageStore.store c.add.new.self) (next_dead c.requires.can (omega (arith, c.loop-i-test.true)) c.loop-i.invariant.fills) c.loop-i.invariant.fills c.add.ensures.contents c.add.ensures.store;
+      passes = makes_then g.G.PageStore.unpaged 0 c.loop-i.i (c.loop-i.i + 1) (g.G.PageStore.store c.args.g.now) (g.G.PageStore.store c.loop-i.g) (g.G.PageStore.store c.add.new.self)
+          (g.G.PageStore.behind c.args.g.now) (g.G.PageStore.behind c.loop-i.g) (g.G.PageStore.behind c.add.new.self) (omega arith) (omega arith) c.loop-i.invariant.passes
           (c.add.ensures.passes c.loop-i.i (c.loop-i.i + 1) (omega arith) (omega arith));
       loans = c.add.ensures.loans ∙ c.loop-i.invariant.loans;
     }
 
 pub returns-clause-passes : goal.returns-clause-passes
 returns-clause-passes g c =
-    makes_wider g.G.Pages.unpaged 0 c.loop-i.i 0 (2 ^ 32) (g.G.Pages.store c.args.g.now) (g.G.Pages.store c.loop-i.g)
-    (g.G.Pages.behind c.args.g.now) (g.G.Pages.behind c.loop-i.g) (omega arith) (omega (arith, c.ranges.n.fits, c.loop-i.auto.i-end)) c.loop-i.invariant.passes
+    makes_wider g.G.PageStore.unpaged 0 c.loop-i.i 0 (2 ^ 32) (g.G.PageStore.store c.args.g.now) (g.G.PageStore.store c.loop-i.g)
+    (g.G.PageStore.behind c.args.g.now) (g.G.PageStore.behind c.loop-i.g) (omega arith) (omega (arith, c.ranges.n.fits, c.loop-i.auto.i-end)) c.loop-i.invariant.passes
 
 pub returns-clause-fills : goal.returns-clause-fills
 returns-clause-fills g c =
     let count : c.loop-i.i ≡ c.args.n = omega (arith, c.loop-i-test.false, c.loop-i.auto.i-end) in
-    subst (λ (k : ℕ). Come (is_page_of c.args.area k) k (g.G.Pages.contents c.args.g.now) (g.G.Pages.contents c.loop-i.g) (g.G.Pages.store c.args.g.now) (g.G.Pages.store c.loop-i.g)) count c.loop-i.invariant.fills
+    subst (λ (k : ℕ). Come (is_page_of c.args.area k) k (g.G.PageStore.contents c.args.g.now) (g.G.PageStore.contents c.loop-i.g) (g.G.PageStore.store c.args.g.now) (g.G.PageStore.store c.loop-i.g)) count c.loop-i.invariant.fills

@@ -6,7 +6,7 @@ use Rattle.mm_object_tables.proofs.{idle}
 use Rattle.mm_object_tables.proofs.views.make_view.Goals as goal
 
 pub returns-in_err-region-clause-idles : goal.returns-in_err-region-clause-idles
-returns-in_err-region-clause-idles g c = record { contents = refl; passes = idle g.G.Pages c.args.g.now; loans = refl }
+returns-in_err-region-clause-idles g c = record { contents = refl; passes = idle g.G.PageStore c.args.g.now; loans = refl }
 
 pub returns-in_err-region-clause-err : goal.returns-in_err-region-clause-err
 returns-in_err-region-clause-err g c = on_err c.from_residual.result (record { store = refl; later = omega arith })

@@ -31,7 +31,7 @@ index_mut-requires g c =
 
 pub share_in-requires-clause-can : goal.share_in-requires-clause-can
 share_in-requires-clause-can g c =
-    subst (λ (a : AreaOf (Unit {0})). CanShare c.args.view.area (c.args.view.first + c.args.offset) c.args.count a (g.G.Pages.contents c.args.g.now) (g.G.Pages.store c.args.g.now)) (sym (here g (goal.at.share_in-requires-clause-can g c).After-index_mut)) c.requires.can
+    subst (λ (a : AreaOf (Unit {0})). CanShare c.args.view.area (c.args.view.first + c.args.offset) c.args.count a (g.G.PageStore.contents c.args.g.now) (g.G.PageStore.store c.args.g.now)) (sym (here g (goal.at.share_in-requires-clause-can g c).After-index_mut)) c.requires.can
 
 pub returns-clause-areas : goal.returns-clause-areas
 returns-clause-areas g c =
@@ -39,4 +39,4 @@ returns-clause-areas g c =
 
 pub returns-clause-shared : goal.returns-clause-shared
 returns-clause-shared g c =
-    subst (λ (a : AreaOf (Unit {0})). SharesPages g.G.Pages c.args.view.area (c.args.view.first + c.args.offset) c.args.count a c.args.g.now c.share_in.new.g) (here g (goal.at.returns-clause-shared g c).After-index_mut) c.share_in.ensures.shared
+    subst (λ (a : AreaOf (Unit {0})). SharesPages g.G.PageStore c.args.view.area (c.args.view.first + c.args.offset) c.args.count a c.args.g.now c.share_in.new.g) (here g (goal.at.returns-clause-shared g c).After-index_mut) c.share_in.ensures.shared

@@ -21,10 +21,10 @@ copy_held-requires-clause-may g c = record {
 }
 
 pub returns-clause-ok : goal.returns-clause-ok
-returns-clause-ok g c = ok_copies _ c.args.from _ c.args.place _ _ c.in_ok-f.ensures.readied (g.met.T.Moving.holds c.hold_shared.new.state) c.requires.may.dead _ c.copy_held.ensures.went c.copy_held.ensures.copied
+returns-clause-ok g c = ok_copies _ c.args.from _ c.args.place _ _ c.in_ok-f.ensures.readied (g.met.T.StateCalls.holds c.hold_shared.new.state) c.requires.may.dead _ c.copy_held.ensures.went c.copy_held.ensures.copied
 
 pub returns-clause-err : goal.returns-clause-err
-returns-clause-err g c = err_copies _ c.args.from _ c.args.place _ _ c.in_ok-f.ensures.readied (g.met.T.Moving.holds c.hold_shared.new.state) c.requires.may.dead _ c.copy_held.ensures.err
+returns-clause-err g c = err_copies _ c.args.from _ c.args.place _ _ c.in_ok-f.ensures.readied (g.met.T.StateCalls.holds c.hold_shared.new.state) c.requires.may.dead _ c.copy_held.ensures.err
 
 pub returns-in_err-f-clause-err : goal.returns-in_err-f-clause-err
-returns-in_err-f-clause-err g c = let lost = fails_to_hold c.args.from c.args.place c.in_err-f.field-0.0 (g.T.Moving.shown c.args.state.now) (g.T.Moving.shown c.hold_shared.new.state) c.in_err-f.ensures.free c.in_err-f.ensures.err in search (rules, lost)
+returns-in_err-f-clause-err g c = let lost = fails_to_hold c.args.from c.args.place c.in_err-f.field-0.0 (g.T.StateCalls.shown c.args.state.now) (g.T.StateCalls.shown c.hold_shared.new.state) c.in_err-f.ensures.free c.in_err-f.ensures.err in search (rules, lost)

@@ -9,17 +9,17 @@ use Rattle.mm_pager.proofs.faults.bring_stored.Goals as goal
 
 pub free_frame-requires : goal.free_frame-requires
 free_frame-requires g c =
-    let t = g.T.Moving.shown c.find.new.state in
+    let t = g.T.StateCalls.shown c.find.new.state in
     let p = c.in_ok-find.ensures.ok in
-    record { touch = access_touches t.life.kind (found_access (g.T.Moving.shown c.args.state.now) t p c.requires.may.access); some = p.got refl }
+    record { touch = access_touches t.life.kind (found_access (g.T.StateCalls.shown c.args.state.now) t p c.requires.may.access); some = p.got refl }
 
 pub start_read-f-requires : goal.start_read-f-requires
 start_read-f-requires g c =
-    let s = g.T.Moving.shown c.args.state.now in
-    let t = g.T.Moving.shown c.find.new.state in
-    let y = g.T.Moving.shown c.free_frame.new.state in
+    let s = g.T.StateCalls.shown c.args.state.now in
+    let t = g.T.StateCalls.shown c.find.new.state in
+    let y = g.T.StateCalls.shown c.free_frame.new.state in
     let p = c.in_ok-find.ensures.ok in
-    let r = freed_ready t y (g.met.T.Moving.holds c.find.new.state) c.free_frame.ensures.frees in
+    let r = freed_ready t y (g.met.T.StateCalls.holds c.find.new.state) c.free_frame.ensures.frees in
     let access : is_access y.life.kind ≡ true = ap is_access r.life.kind ∙ found_access s t p c.requires.may.access in
     record {
       legal = read_legal c.args.key y.life c.free_frame.ensures.some (r.stands is_stored c.args.key (λ f. refl) (found_stands is_stored c.args.key s t p c.requires.may.stored)) (λ i. access i || (is_thread y.life.kind && has_depth y.life));
@@ -28,18 +28,18 @@ start_read-f-requires g c =
 
 pub end_read-requires : goal.end_read-requires
 end_read-requires g c =
-    let s = g.T.Moving.shown c.args.state.now in
-    let t = g.T.Moving.shown c.find.new.state in
-    let m = g.T.Moving.shown c.start_read-f.new.self in
-    let r = freed_ready t (g.T.Moving.shown c.free_frame.new.state) (g.met.T.Moving.holds c.find.new.state) c.free_frame.ensures.frees in
+    let s = g.T.StateCalls.shown c.args.state.now in
+    let t = g.T.StateCalls.shown c.find.new.state in
+    let m = g.T.StateCalls.shown c.start_read-f.new.self in
+    let r = freed_ready t (g.T.StateCalls.shown c.free_frame.new.state) (g.met.T.StateCalls.holds c.find.new.state) c.free_frame.ensures.frees in
     let access : is_access m.life.kind ≡ true = ap (λ (l : FrameLife). is_access l.kind) c.start_read-f.ensures.made.life ∙ ap is_access r.life.kind ∙ found_access s t c.in_ok-find.ensures.ok c.requires.may.access in
     record { legal = (λ i. c.start_read-f.ensures.reading i && (is_io m.life.kind || access i)) ∙ or_true (is_io m.life.kind) }
 
 pub returns-then-end_read-clause-ok : goal.returns-then-end_read-clause-ok
-returns-then-end_read-clause-ok g c = brings_read c.args.key c.start_read-f.result (g.T.Moving.shown c.args.state.now) (g.T.Moving.shown c.find.new.state) (g.T.Moving.shown c.free_frame.new.state) (g.T.Moving.shown c.start_read-f.new.self) (g.T.Moving.shown c.end_read.new.self) c.requires.may.stored c.in_ok-find.ensures.ok (g.met.T.Moving.holds c.find.new.state) c.free_frame.ensures.frees c.start_read-f.ensures.frame (g.met.T.Moving.holds c.start_read-f.new.self) c.start_read-f.ensures.made c.requires.may.own c.start_read-f.ensures.rest c.end_read.ensures.rest c.if-end_read.ensures.made (c.if-end_read.ensures.quiet refl)
+returns-then-end_read-clause-ok g c = brings_read c.args.key c.start_read-f.result (g.T.StateCalls.shown c.args.state.now) (g.T.StateCalls.shown c.find.new.state) (g.T.StateCalls.shown c.free_frame.new.state) (g.T.StateCalls.shown c.start_read-f.new.self) (g.T.StateCalls.shown c.end_read.new.self) c.requires.may.stored c.in_ok-find.ensures.ok (g.met.T.StateCalls.holds c.find.new.state) c.free_frame.ensures.frees c.start_read-f.ensures.frame (g.met.T.StateCalls.holds c.start_read-f.new.self) c.start_read-f.ensures.made c.requires.may.own c.start_read-f.ensures.rest c.end_read.ensures.rest c.if-end_read.ensures.made (c.if-end_read.ensures.quiet refl)
 
 pub returns-else-end_read-clause-err : goal.returns-else-end_read-clause-err
-returns-else-end_read-clause-err g c = reading_fails c.args.key c.start_read-f.result (g.T.Moving.shown c.args.state.now) (g.T.Moving.shown c.find.new.state) (g.T.Moving.shown c.free_frame.new.state) (g.T.Moving.shown c.start_read-f.new.self) (g.T.Moving.shown c.end_read.new.self) c.requires.may.stored c.in_ok-find.ensures.ok (g.met.T.Moving.holds c.find.new.state) c.free_frame.ensures.frees c.start_read-f.ensures.frame (g.met.T.Moving.holds c.start_read-f.new.self) c.start_read-f.ensures.made c.requires.may.own c.start_read-f.ensures.rest c.end_read.ensures.rest c.if-end_read.ensures.made
+returns-else-end_read-clause-err g c = reading_fails c.args.key c.start_read-f.result (g.T.StateCalls.shown c.args.state.now) (g.T.StateCalls.shown c.find.new.state) (g.T.StateCalls.shown c.free_frame.new.state) (g.T.StateCalls.shown c.start_read-f.new.self) (g.T.StateCalls.shown c.end_read.new.self) c.requires.may.stored c.in_ok-find.ensures.ok (g.met.T.StateCalls.holds c.find.new.state) c.free_frame.ensures.frees c.start_read-f.ensures.frame (g.met.T.StateCalls.holds c.start_read-f.new.self) c.start_read-f.ensures.made c.requires.may.own c.start_read-f.ensures.rest c.end_read.ensures.rest c.if-end_read.ensures.made
 
 pub returns-in_err-find-clause-err : goal.returns-in_err-find-clause-err
-returns-in_err-find-clause-err g c = let lost = fails_to_find c.args.key c.in_err-find.field-0.0 (g.T.Moving.shown c.args.state.now) (g.T.Moving.shown c.find.new.state) (stored_unframed _ c.requires.may.stored) c.in_err-find.ensures.err in search (rules, lost)
+returns-in_err-find-clause-err g c = let lost = fails_to_find c.args.key c.in_err-find.field-0.0 (g.T.StateCalls.shown c.args.state.now) (g.T.StateCalls.shown c.find.new.state) (stored_unframed _ c.requires.may.stored) c.in_err-find.ensures.err in search (rules, lost)

@@ -8,8 +8,8 @@ pub loop-from-init : goal.loop-from-init
 loop-from-init g c = record {
   low = omega arith;
   within = omega arith;
-  went = λ held start to a. lets_none (g.T.Moving.shown c.args.state.now) held start (page_rank c.args.first.0);
-  thins = thins_none (g.T.Moving.shown c.args.state.now);
+  went = λ held start to a. lets_none (g.T.StateCalls.shown c.args.state.now) held start (page_rank c.args.first.0);
+  thins = thins_none (g.T.StateCalls.shown c.args.state.now);
   gone = λ page l h. absurd (omega (arith, l, h));
   loans = refl;
 }
@@ -20,13 +20,13 @@ let_next_go-from-requires-clause-open g c = ap (λ (x : StateOf). x.is_open c.ar
 pub let_next_go-from-requires-clause-may : goal.let_next_go-from-requires-clause-may
 let_next_go-from-requires-clause-may g c page l h =
     let low : c.args.first.0 ≤ page = omega (arith, l, c.loop-from.invariant.low) in
-    may_still (place_at c.args.pid page) (g.T.Moving.shown c.args.state.now) (g.T.Moving.shown c.loop-from.state) c.loop-from.invariant.thins (c.requires.may page low h)
+    may_still (place_at c.args.pid page) (g.T.StateCalls.shown c.args.state.now) (g.T.StateCalls.shown c.loop-from.state) c.loop-from.invariant.thins (c.requires.may page low h)
 
 pub loop-from-preserved : goal.loop-from-preserved
 loop-from-preserved g c =
-    let s = g.T.Moving.shown c.args.state.now in
-    let y = g.T.Moving.shown c.loop-from.state in
-    let z = g.T.Moving.shown c.let_next_go-from.new.state in
+    let s = g.T.StateCalls.shown c.args.state.now in
+    let y = g.T.StateCalls.shown c.loop-from.state in
+    let z = g.T.StateCalls.shown c.let_next_go-from.new.state in
     let gone = c.let_next_go-from.ensures.gone in
     let before = c.loop-from.invariant in
     record {
@@ -47,7 +47,7 @@ pub returns-clause-went : goal.returns-clause-went
 returns-clause-went g c held start to a =
     let last = a.last in
     let below : page_rank c.loop-from.from ≤ to = omega (arith, last, c.loop-from.invariant.within) in
-    lets_wider (g.T.Moving.shown c.args.state.now) (g.T.Moving.shown c.loop-from.state) held start (page_rank c.loop-from.from) to below (c.loop-from.invariant.went held start to a)
+    lets_wider (g.T.StateCalls.shown c.args.state.now) (g.T.StateCalls.shown c.loop-from.state) held start (page_rank c.loop-from.from) to below (c.loop-from.invariant.went held start to a)
 
 pub returns-clause-thins : goal.returns-clause-thins
 returns-clause-thins g c = c.loop-from.invariant.thins

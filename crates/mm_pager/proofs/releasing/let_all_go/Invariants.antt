@@ -9,10 +9,10 @@ abbrev pub invariant-loop-from : goal.invariant-loop-from
 invariant-loop-from g l = record {
   low : l.first.0 ≤ l.from;
   within : l.from ≤ l.first.0 + l.n;
-  went : (held : Leaving) (start to : ℕ) → AreAmong held start to l.pid (record { first = l.first.0; count = l.n }) → LetsGo held start (page_rank l.from) (g.T.Moving.shown l.fn.state) (g.T.Moving.shown l.state);
-  thins : Thins (g.T.Moving.shown l.fn.state) (g.T.Moving.shown l.state);
-  gone : GoneUpTo l.pid l.first.0 l.from (g.T.Moving.shown l.state);
-  loans : g.T.Moving.loans l.state ≡ g.T.Moving.loans l.fn.state;
+  went : (held : Leaving) (start to : ℕ) → AreAmong held start to l.pid (record { first = l.first.0; count = l.n }) → LetsGo held start (page_rank l.from) (g.T.StateCalls.shown l.fn.state) (g.T.StateCalls.shown l.state);
+  thins : Thins (g.T.StateCalls.shown l.fn.state) (g.T.StateCalls.shown l.state);
+  gone : GoneUpTo l.pid l.first.0 l.from (g.T.StateCalls.shown l.state);
+  loans : g.T.StateCalls.loans l.state ≡ g.T.StateCalls.loans l.fn.state;
 }
 
 abbrev pub decreases-loop-from : goal.decreases-loop-from

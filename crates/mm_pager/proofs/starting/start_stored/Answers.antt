@@ -10,9 +10,9 @@ returns-then-is_starved-clause-begun g c place = begun_short c.args.key place _ 
 
 pub start_read-requires : goal.start_read-requires
 start_read-requires g c =
-    let may = thread_reads c.args.key (g.T.Moving.shown c.args.state.now) (g.T.Moving.shown c.free_frame.new.state) (g.met.T.Moving.holds c.args.state.now) c.free_frame.ensures.frees c.requires.thread c.requires.stored (sym c.has_depth.ensures ∙ c.if-not-has_depth.false) c.free_frame.ensures.some in
+    let may = thread_reads c.args.key (g.T.StateCalls.shown c.args.state.now) (g.T.StateCalls.shown c.free_frame.new.state) (g.met.T.StateCalls.holds c.args.state.now) c.free_frame.ensures.frees c.requires.thread c.requires.stored (sym c.has_depth.ensures ∙ c.if-not-has_depth.false) c.free_frame.ensures.some in
     record { legal = may.0; room = may.1 }
 
 pub returns-clause-begun : goal.returns-clause-begun
-returns-clause-begun g c place = begun_read c.args.key c.start_read.result place (g.T.Moving.shown c.args.state.now) (g.T.Moving.shown c.free_frame.new.state) (g.T.Moving.shown c.start_read.new.self) (g.met.T.Moving.holds c.args.state.now) (g.met.T.Moving.holds c.start_read.new.self) c.requires.thread c.requires.stored (sym c.has_depth.ensures ∙ c.if-not-has_depth.false) (sym c.is_starved.ensures ∙ c.if-is_starved.false)
+returns-clause-begun g c place = begun_read c.args.key c.start_read.result place (g.T.StateCalls.shown c.args.state.now) (g.T.StateCalls.shown c.free_frame.new.state) (g.T.StateCalls.shown c.start_read.new.self) (g.met.T.StateCalls.holds c.args.state.now) (g.met.T.StateCalls.holds c.start_read.new.self) c.requires.thread c.requires.stored (sym c.has_depth.ensures ∙ c.if-not-has_depth.false) (sym c.is_starved.ensures ∙ c.if-is_starved.false)
     c.free_frame.ensures.frees c.start_read.ensures.frame c.start_read.ensures.made c.start_read.ensures.rest c.start_read.ensures.reading

@@ -6,10 +6,10 @@ use Rattle.mm_reclaim.proofs.choosing.oldest_to_go.Given as goal
 
 abbrev pub invariant-pages : goal.invariant-pages
 invariant-pages g l = record {
-  held : IsValidPage (g.T.Moving.shown l.state).life l.pid l.after;
+  held : IsValidPage (g.T.StateCalls.shown l.state).life l.pid l.after;
   low : IsLow l.after;
-  passed : PassedTo (g.T.Moving.shown l.state).life (g.T.Moving.shown l.state).ages l.pinned l.pid.0 (after_page l.pid l.after);
+  passed : PassedTo (g.T.StateCalls.shown l.state).life (g.T.StateCalls.shown l.state).ages l.pinned l.pid.0 (after_page l.pid l.after);
 }
 
 abbrev pub decreases-pages : goal.decreases-pages
-decreases-pages g l = 34359738369 - rank (g.T.Moving.shown l.state).ages l.pid l.after
+decreases-pages g l = 34359738369 - rank (g.T.StateCalls.shown l.state).ages l.pid l.after

@@ -3,7 +3,7 @@ use Rattle.mm_reclaim.proofs.{trims_none, trims_more, trims_over, trims_all}
 use Rattle.mm_reclaim.proofs.chores.trim.Goals as goal
 
 pub loop-trimmed-init : goal.loop-trimmed-init
-loop-trimmed-init g c = record { few = omega arith; trims = trims_none c.args.pid (g.T.Moving.shown c.args.state.now); loans = refl }
+loop-trimmed-init g c = record { few = omega arith; trims = trims_none c.args.pid (g.T.StateCalls.shown c.args.state.now); loans = refl }
 
 pub loop-trimmed-preserved : goal.loop-trimmed-preserved
 loop-trimmed-preserved g c = record {

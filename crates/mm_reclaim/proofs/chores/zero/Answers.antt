@@ -4,7 +4,7 @@ use Rattle.mm_reclaim.proofs.{chain_none, chain_more, chain_over, chain_all}
 use Rattle.mm_reclaim.proofs.chores.zero.Goals as goal
 
 pub loop-cleared-init : goal.loop-cleared-init
-loop-cleared-init g c = record { few = omega arith; rounds = chain_none clearings c.args.n (g.T.Moving.shown c.args.state.now); loans = refl }
+loop-cleared-init g c = record { few = omega arith; rounds = chain_none clearings c.args.n (g.T.StateCalls.shown c.args.state.now); loans = refl }
 
 pub clear_one-requires : goal.clear_one-requires
 clear_one-requires g c = record { kind = c.loop-cleared.invariant.rounds.kind ∙ c.requires.kind }
@@ -23,7 +23,7 @@ pub returns-then-not-clear_one-clause-rest : goal.returns-then-not-clear_one-cla
 returns-then-not-clear_one-clause-rest g c = (chain_over clearings c.args.n c.loop-cleared._cleared _ _ _ c.loop-cleared.invariant.rounds c.if-not-clear_one.ensures.clears).same
 
 pub returns-clause-cleared : goal.returns-clause-cleared
-returns-clause-cleared g c = (chain_all clearings c.args.n c.loop-cleared._cleared (g.T.Moving.shown c.args.state.now) (g.T.Moving.shown c.loop-cleared.state) (λ l. refl) c.loop-cleared-test.false c.loop-cleared.invariant.rounds).does
+returns-clause-cleared g c = (chain_all clearings c.args.n c.loop-cleared._cleared (g.T.StateCalls.shown c.args.state.now) (g.T.StateCalls.shown c.loop-cleared.state) (λ l. refl) c.loop-cleared-test.false c.loop-cleared.invariant.rounds).does
 
 pub returns-clause-rest : goal.returns-clause-rest
 returns-clause-rest g c = c.loop-cleared.invariant.rounds.same

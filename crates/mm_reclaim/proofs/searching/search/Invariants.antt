@@ -5,9 +5,9 @@ use Rattle.mm_reclaim.proofs.searching.search.Given as goal
 
 abbrev pub invariant-turns : goal.invariant-turns
 invariant-turns g l = record {
-  seeking : Seeking l.pinned (g.T.Moving.shown l.fn.state) (g.T.Moving.shown l.state);
-  loans : g.T.Moving.loans l.state ≡ g.T.Moving.loans l.fn.state;
+  seeking : Seeking l.pinned (g.T.StateCalls.shown l.fn.state) (g.T.StateCalls.shown l.state);
+  loans : g.T.StateCalls.loans l.state ≡ g.T.StateCalls.loans l.fn.state;
 }
 
 abbrev pub decreases-turns : goal.decreases-turns
-decreases-turns g l = valid_places (g.T.Moving.shown l.state).life
+decreases-turns g l = valid_places (g.T.StateCalls.shown l.state).life

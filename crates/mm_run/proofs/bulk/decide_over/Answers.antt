@@ -18,7 +18,7 @@ pub new-world-requires : goal.new-world-requires
 new-world-requires g c = record { new = is_new c.args.machine _ _ c.requires.starts.starts _ _ c.over.ensures.contents c.over.ensures.store }
 
 -- the world over it is the machine's
-made : (g : given.Over) (c : After-finish-2 g) (o : Outset) → Starts c.args.machine o (g.T.Moving.shown c.args.state) → MachineIsMade c.args.machine o (scene c.new-world.result)
+made : (g : given.Over) (c : After-finish-2 g) (o : Outset) → Starts c.args.machine o (g.T.StateCalls.shown c.args.state) → MachineIsMade c.args.machine o (scene c.new-world.result)
 made g c o h =
     let m = c.args.machine in
     let whole : IsMachine m = search rules in
@@ -29,7 +29,7 @@ made g c o h =
 pub returns-clause-came : goal.returns-clause-came
 returns-clause-came g c = λ o h.
     let last = c.decide_events-decided.new.world in
-    subst (λ z. BatchRan (NotBegun o) (line.Machine c.args.machine ∷ c.args.events.now) c.decide_events-decided.result (left_behind (g.T.Moving.shown z))) (sym (c.finish-2.ensures.state ∙ ap (λ x. x.state) c.finish.ensures)) (record {
+    subst (λ z. BatchRan (NotBegun o) (line.Machine c.args.machine ∷ c.args.events.now) c.decide_events-decided.result (left_behind (g.T.StateCalls.shown z))) (sym (c.finish-2.ensures.state ∙ ap (λ x. x.state) c.finish.ensures)) (record {
       end = Running (scene last);
       finished = c.decide_events-decided.ensures.came o (made g (goal.at.returns-clause-came g c).After-finish-2 o h);
       leaves = (log_left_at (world_behind last).log _ refl refl refl, record { log_is = refl; blocks_are = refl; faults_are = refl }, record { log_is = refl; blocks_are = refl; faults_are = refl });
@@ -37,4 +37,4 @@ returns-clause-came g c = λ o h.
 
 pub returns-clause-faults : goal.returns-clause-faults
 returns-clause-faults g c = λ o h.
-    subst (λ z. AccountsMoves c.decide_events-decided.result ⊥ o.log.faults (g.T.Moving.shown z).log.faults) (sym (c.finish-2.ensures.state ∙ ap (λ x. x.state) c.finish.ensures)) (c.decide_events-decided.ensures.faults o (made g (goal.at.returns-clause-faults g c).After-finish-2 o h) h.unfailed)
+    subst (λ z. AccountsMoves c.decide_events-decided.result ⊥ o.log.faults (g.T.StateCalls.shown z).log.faults) (sym (c.finish-2.ensures.state ∙ ap (λ x. x.state) c.finish.ensures)) (c.decide_events-decided.ensures.faults o (made g (goal.at.returns-clause-faults g c).After-finish-2 o h) h.unfailed)

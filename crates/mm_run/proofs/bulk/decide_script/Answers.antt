@@ -9,7 +9,7 @@ use Rattle.mm_run.proofs.bulk.decide_script.Goals as goal
 
 pub returns-in-Err : goal.returns-in-Err
 returns-in-Err g c =
-    let o = outset (g.P.Blocks.faults c.args.paging.now) (g.F.Blocks.faults c.args.files.now) (g.M.Sink.taken c.args.moves.now) (g.M.Sink.given c.args.moves.now) (g.M.Sink.faults c.args.moves.now) in
+    let o = outset (g.P.BlockDevice.faults c.args.paging.now) (g.F.BlockDevice.faults c.args.files.now) (g.M.Sink.taken c.args.moves.now) (g.M.Sink.given c.args.moves.now) (g.M.Sink.faults c.args.moves.now) in
     record {
       ends = record {
         came = record {
@@ -34,18 +34,18 @@ returns-in-Ok-open_devices g c =
     let are = c.as_slice-events.ensures.value ∙ c.in-Ok.ensures in
     let rest = take (length c.as_slice-events.result.now - 1) (drop 1 c.as_slice-events.result.now) in
     let whole : line.Machine c.in-Machine.machine ∷ rest ≡ script_of c.args.seed c.args.count = ap (λ e. e ∷ rest) (sym c.in-Machine.is) ∙ script_whole c.args.seed c.args.count c.as_slice-events.result.now are c.index-events-0.result c.index-events-0.is in
-    let o = outset (g.P.Blocks.faults c.args.paging.now) (g.F.Blocks.faults c.args.files.now) (g.M.Sink.taken c.args.moves.now) (g.M.Sink.given c.args.moves.now) (g.M.Sink.faults c.args.moves.now) in
+    let o = outset (g.P.BlockDevice.faults c.args.paging.now) (g.F.BlockDevice.faults c.args.files.now) (g.M.Sink.taken c.args.moves.now) (g.M.Sink.given c.args.moves.now) (g.M.Sink.faults c.args.moves.now) in
     record {
       ends = record {
-        came = subst (λ (es : List Event). BatchRan (NotBegun o) es c.run_events.result (left_seen g.M.Sink g.P.Blocks g.F.Blocks c.run_events.new.moves c.run_events.new.paging c.run_events.new.files)) whole
-            (ran.came (g.P.Blocks.faults c.args.paging.now) (g.F.Blocks.faults c.args.files.now) d.paging_later d.files_later);
+        came = subst (λ (es : List Event). BatchRan (NotBegun o) es c.run_events.result (left_seen g.M.Sink g.P.BlockDevice g.F.BlockDevice c.run_events.new.moves c.run_events.new.paging c.run_events.new.files)) whole
+            (ran.came (g.P.BlockDevice.faults c.args.paging.now) (g.F.BlockDevice.faults c.args.files.now) d.paging_later d.files_later);
         faults = λ s k. blamed_opened c.run_events.result _ _ _ (ran.faults s k);
       };
     }
 
 pub returns : goal.returns
 returns g c =
-    let o = outset (g.P.Blocks.faults c.args.paging.now) (g.F.Blocks.faults c.args.files.now) (g.M.Sink.taken c.args.moves.now) (g.M.Sink.given c.args.moves.now) (g.M.Sink.faults c.args.moves.now) in
+    let o = outset (g.P.BlockDevice.faults c.args.paging.now) (g.F.BlockDevice.faults c.args.files.now) (g.M.Sink.taken c.args.moves.now) (g.M.Sink.given c.args.moves.now) (g.M.Sink.faults c.args.moves.now) in
     record {
       ends = record {
         came = record {

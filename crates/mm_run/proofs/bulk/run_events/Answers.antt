@@ -9,9 +9,9 @@ use Rattle.mm_run.proofs.bulk.run_events.Goals.{In-Ok, After-moves-2-1}
 use Rattle.mm_run.proofs.bulk.run_events.Given as given
 
 -- the state over the devices is one with which a run starts
-starts : (g : given.Over) (c : In-Ok g) (p f : ℕ) → p ≤ g.P.Blocks.faults c.args.paging.now → f ≤ g.F.Blocks.faults c.args.files.now
+starts : (g : given.Over) (c : In-Ok g) (p f : ℕ) → p ≤ g.P.BlockDevice.faults c.args.paging.now → f ≤ g.F.BlockDevice.faults c.args.files.now
     → Starts c.args.machine (outset p f (g.M.Sink.taken c.args.moves.now) (g.M.Sink.given c.args.moves.now) (g.M.Sink.faults c.args.moves.now)) (shown_state c.in-Ok.state)
-starts g c = starts_over g.P.Blocks g.F.Blocks g.M.Sink c.args.machine _ c.requires.opened c.new.ensures.device c.new-2.ensures.device c.new-3.ensures.sink c.new.ensures.named c.new-2.ensures.named c.new-3.ensures.fresh c.in-Ok.ensures.starts
+starts g c = starts_over g.P.BlockDevice g.F.BlockDevice g.M.Sink c.args.machine _ c.requires.opened c.new.ensures.device c.new-2.ensures.device c.new-3.ensures.sink c.new.ensures.named c.new-2.ensures.named c.new-3.ensures.fresh c.in-Ok.ensures.starts
 
 -- the point at which it is made, from the end
 abbrev at_made : (g : given.Over) (c : After-moves-2-1 g) → In-Ok g
@@ -55,7 +55,7 @@ returns-clause-came g c = λ p f later later'.
     let at = (goal.at.returns-clause-came g c).After-moves-2-1 in
     let as_left = left g at in
     subst (λ x. BatchRan (NotBegun (outset p f (g.M.Sink.taken c.args.moves.now) (g.M.Sink.given c.args.moves.now) (g.M.Sink.faults c.args.moves.now))) (line.Machine c.args.machine ∷ c.args.events.now) c.decide_over-decided.result.0 x)
-    (λ i. left_seen g.M.Sink g.P.Blocks g.F.Blocks (as_left.2 i) (as_left.0 i) (as_left.1 i))
+    (λ i. left_seen g.M.Sink g.P.BlockDevice g.F.BlockDevice (as_left.2 i) (as_left.0 i) (as_left.1 i))
     (c.decide_over-decided.ensures.came _ (starts g (at_made g at) p f later later'))
 
 pub returns-clause-faults : goal.returns-clause-faults

@@ -18,7 +18,7 @@ pub new-world-requires : goal.new-world-requires
 new-world-requires g c = record { new = is_new c.args.machine _ _ c.requires.starts.starts _ _ c.over.ensures.contents c.over.ensures.store }
 
 -- the world over it is the machine's
-made : (g : given.Over) (c : After-finish-2 g) (o : Outset) → Starts c.args.machine o (g.T.Moving.shown c.args.state) → MachineIsMade c.args.machine o (scene c.new-world.result)
+made : (g : given.Over) (c : After-finish-2 g) (o : Outset) → Starts c.args.machine o (g.T.StateCalls.shown c.args.state) → MachineIsMade c.args.machine o (scene c.new-world.result)
 made g c o h =
     let m = c.args.machine in
     let whole : IsMachine m = search rules in
@@ -29,7 +29,7 @@ made g c o h =
 pub returns-clause-came : goal.returns-clause-came
 returns-clause-came g c = λ o h.
     let last = c.answer_all-ending.new.world in
-    subst (λ z. Comes (outside_seen g.S.Source g.O.Sink c.args.source.now c.args.out.now c.args.kept.now) (outside_seen g.S.Source g.O.Sink c.answer_all-ending.new.source c.answer_all-ending.new.out c.answer_all-ending.new.kept) (stand c.args.held.now 0 (NotBegun o)) c.answer_all-ending.result (left_behind (g.T.Moving.shown z))) (sym (c.finish-2.ensures.state ∙ ap (λ x. x.state) c.finish.ensures)) (record {
+    subst (λ z. Comes (outside_seen g.S.Source g.O.Sink c.args.source.now c.args.out.now c.args.kept.now) (outside_seen g.S.Source g.O.Sink c.answer_all-ending.new.source c.answer_all-ending.new.out c.answer_all-ending.new.kept) (stand c.args.held.now 0 (NotBegun o)) c.answer_all-ending.result (left_behind (g.T.StateCalls.shown z))) (sym (c.finish-2.ensures.state ∙ ap (λ x. x.state) c.finish.ensures)) (record {
       end = Running (scene last);
       came = c.answer_all-ending.ensures.came o (made g (goal.at.returns-clause-came g c).After-finish-2 o h);
       leaves = (log_left_at (world_behind last).log _ refl refl refl, record { log_is = refl; blocks_are = refl; faults_are = refl }, record { log_is = refl; blocks_are = refl; faults_are = refl });
@@ -37,8 +37,8 @@ returns-clause-came g c = λ o h.
 
 pub returns-clause-faults : goal.returns-clause-faults
 returns-clause-faults g c = λ o h.
-    subst (λ z. IsBlamed c.answer_all-ending.result ⊥ (fault_counts_with (g.S.Source.faults c.args.source.now) (g.O.Sink.faults c.args.out.now) o.log.faults) (fault_counts_with (g.S.Source.faults c.answer_all-ending.new.source) (g.O.Sink.faults c.answer_all-ending.new.out) (g.T.Moving.shown z).log.faults)) (sym (c.finish-2.ensures.state ∙ ap (λ x. x.state) c.finish.ensures)) (c.answer_all-ending.ensures.faults o (made g (goal.at.returns-clause-faults g c).After-finish-2 o h) h.unfailed)
+    subst (λ z. IsBlamed c.answer_all-ending.result ⊥ (fault_counts_with (g.S.Source.faults c.args.source.now) (g.O.Sink.faults c.args.out.now) o.log.faults) (fault_counts_with (g.S.Source.faults c.answer_all-ending.new.source) (g.O.Sink.faults c.answer_all-ending.new.out) (g.T.StateCalls.shown z).log.faults)) (sym (c.finish-2.ensures.state ∙ ap (λ x. x.state) c.finish.ensures)) (c.answer_all-ending.ensures.faults o (made g (goal.at.returns-clause-faults g c).After-finish-2 o h) h.unfailed)
 
 pub returns-clause-still : goal.returns-clause-still
 returns-clause-still g c =
-    subst (λ z. c.answer_all-ending.result ≡ ending.ReadFault → IsStill c.answer_all-ending.new.kept (g.O.Sink.given c.answer_all-ending.new.out) (g.O.Sink.taken c.answer_all-ending.new.out) (g.T.Moving.shown z).log.given (g.T.Moving.shown z).log.bytes) (sym (c.finish-2.ensures.state ∙ ap (λ x. x.state) c.finish.ensures)) c.answer_all-ending.ensures.still
+    subst (λ z. c.answer_all-ending.result ≡ ending.ReadFault → IsStill c.answer_all-ending.new.kept (g.O.Sink.given c.answer_all-ending.new.out) (g.O.Sink.taken c.answer_all-ending.new.out) (g.T.StateCalls.shown z).log.given (g.T.StateCalls.shown z).log.bytes) (sym (c.finish-2.ensures.state ∙ ap (λ x. x.state) c.finish.ensures)) c.answer_all-ending.ensures.still

@@ -5,5 +5,5 @@ use Rattle.mm_tests.proofs.changes.none_backed.Given as goal
 
 abbrev pub invariant-loop-f : goal.invariant-loop-f
 invariant-loop-f g l = record {
-  none : (f : ℕ) → f < l.f → (record_at (g.T.Moving.shown l.fn.state).life.frames f).backing ≡ backing.None;
+  none : (f : ℕ) → f < l.f → (record_at (g.T.StateCalls.shown l.fn.state).life.frames f).backing ≡ backing.None;
 }

@@ -23,14 +23,14 @@ pub invariant_of-result : goal.invariant_of-result
 invariant_of-result g c =
     let pages = c.args.pages in
     record {
-      fits = λ h. subst (λ (t : Tables). FitsTables t (g.G.Pages.contents pages) (g.G.Pages.store pages)) (sym c.new.ensures) (new_fits c.args.machine _ _ c.requires.new);
-      few = λ h. subst (λ (t : Tables). MadeAtMost (g.G.Pages.store pages).line t) (sym c.new.ensures) (made_none c.args.machine (g.G.Pages.store pages).line);
+      fits = λ h. subst (λ (t : Tables). FitsTables t (g.G.PageStore.contents pages) (g.G.PageStore.store pages)) (sym c.new.ensures) (new_fits c.args.machine _ _ c.requires.new);
+      few = λ h. subst (λ (t : Tables). MadeAtMost (g.G.PageStore.store pages).line t) (sym c.new.ensures) (made_none c.args.machine (g.G.PageStore.store pages).line);
     }
 
 pub returns-clause-agrees : goal.returns-clause-agrees
 returns-clause-agrees g c paging =
-    let contents = g.G.Pages.contents c.args.pages in
-    let store = g.G.Pages.store c.args.pages in
-    let behind = g.G.Pages.behind c.args.pages in
+    let contents = g.G.PageStore.contents c.args.pages in
+    let store = g.G.PageStore.store c.args.pages in
+    let behind = g.G.PageStore.behind c.args.pages in
     subst (λ (t : Tables). Agrees (world_with t (key_bytes contents)) store.report behind) (sym c.new.ensures)
-    (agrees (first_world c.args.machine) contents store behind (new_fits c.args.machine _ _ c.requires.new) (stands g.G.Pages.unpaged contents store behind paging c.sound.ensures.stands))
+    (agrees (first_world c.args.machine) contents store behind (new_fits c.args.machine _ _ c.requires.new) (stands g.G.PageStore.unpaged contents store behind paging c.sound.ensures.stands))

@@ -6,7 +6,7 @@ pub returns-clause-decided : goal.returns-clause-decided
 returns-clause-decided g c =
     let d = c.decide-result in
     let w = c.args.self.now in
-    let p = g.G.Pages in
+    let p = g.G.PageStore in
     at-ok d.result (λ x q.
     decides p.unpaged c.args.line w.tables (p.contents w.pages) (p.store w.pages) (p.behind w.pages)
     d.new.t (p.contents d.new.g) (p.store d.new.g) (p.behind d.new.g)
@@ -18,7 +18,7 @@ pub returns-clause-broke : goal.returns-clause-broke
 returns-clause-broke g c =
     let d = c.decide-result in
     let w = c.args.self.now in
-    let p = g.G.Pages in
+    let p = g.G.PageStore in
     at-err d.result (λ x q.
     breaks p.unpaged c.args.line w.tables (p.contents w.pages) (p.store w.pages) (p.behind w.pages)
     d.new.t (p.contents d.new.g) (p.store d.new.g) (p.behind d.new.g)
@@ -28,4 +28,4 @@ returns-clause-broke g c =
 pub returns-clause-no_memory : goal.returns-clause-no_memory
 returns-clause-no_memory g c =
     let w = c.args.self.now in
-    is_ok_with w.tables (key_bytes (g.G.Pages.contents w.pages)) c.args.event.now c.decide-result.result c.decide-result.ensures.no_memory
+    is_ok_with w.tables (key_bytes (g.G.PageStore.contents w.pages)) c.args.event.now c.decide-result.result c.decide-result.ensures.no_memory

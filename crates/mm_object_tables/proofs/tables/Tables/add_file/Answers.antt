@@ -45,15 +45,15 @@ pub returns-in-Err-clause-stored : goal.returns-in-Err-clause-stored
 returns-in-Err-clause-stored g c =
     let same = same_tables c.self.inside refl c.grow_for_file-grown.ensures.listed.entries c.grow_for_file-grown.ensures.areas c.grow_for_file-grown.ensures.listed.files c.self.view_is in
     record {
-      fits = subst (λ (t : Tables). FitsTables t (g.G.Pages.contents c.args.g.now) (g.G.Pages.store c.args.g.now)) (sym same) c.requires.fits;
+      fits = subst (λ (t : Tables). FitsTables t (g.G.PageStore.contents c.args.g.now) (g.G.PageStore.store c.args.g.now)) (sym same) c.requires.fits;
       beside = refl;
       memory = λ memory. refl;
-      served = served_none (g.G.Pages.store c.args.g.now);
+      served = served_none (g.G.PageStore.store c.args.g.now);
     }
 
 pub returns-in-Err-clause-notes : goal.returns-in-Err-clause-notes
 returns-in-Err-clause-notes g c = record {
-  notes = notes_nothing g.G.Pages.unpaged Makes (g.G.Pages.behind c.args.g.now);
+  notes = notes_nothing g.G.PageStore.unpaged Makes (g.G.PageStore.behind c.args.g.now);
   written = λ paged. tt;
   loans = refl;
 }
@@ -61,7 +61,7 @@ returns-in-Err-clause-notes g c = record {
 pub make_file-requires-clause-new : goal.make_file-requires-clause-new
 make_file-requires-clause-new g c =
     let at : c.len.result ≡ length c.args.self.now.areas = omega (arith, c.len.ensures, c.self.inside.areas.ok.0, ap (λ (t : Tables). length t.areas) c.self.view_is) in
-    area_free c.args.self.now (g.G.Pages.contents c.args.g.now) (g.G.Pages.store c.args.g.now) c.len.result c.requires.fits at
+    area_free c.args.self.now (g.G.PageStore.contents c.args.g.now) (g.G.PageStore.store c.args.g.now) c.len.result c.requires.fits at
 
 pub list_file-requires-clause-unnamed : goal.list_file-requires-clause-unnamed
 list_file-requires-clause-unnamed g c =
@@ -83,13 +83,13 @@ returns-in-Err-make_file-clause-files g c = record {
 pub returns-in-Err-make_file-clause-stored : goal.returns-in-Err-make_file-clause-stored
 returns-in-Err-make_file-clause-stored g c =
     let same = same_tables c.self.inside refl c.grow_for_file-grown.ensures.listed.entries c.grow_for_file-grown.ensures.areas c.grow_for_file-grown.ensures.listed.files c.self.view_is in
-    let new = g.G.Pages.contents c.make_file.new.self in
-    let z = g.G.Pages.store c.make_file.new.self in
+    let new = g.G.PageStore.contents c.make_file.new.self in
+    let z = g.G.PageStore.store c.make_file.new.self in
     record {
       fits = subst (λ (t : Tables). FitsTables t new z) (sym same)
-          (fits_wrote c.args.self.now (g.G.Pages.contents c.args.g.now) new (g.G.Pages.store c.args.g.now) z c.requires.fits c.in-Err-make_file.ensures.kept c.in-Err-make_file.ensures.err
+          (fits_wrote c.args.self.now (g.G.PageStore.contents c.args.g.now) new (g.G.PageStore.store c.args.g.now) z c.requires.fits c.in-Err-make_file.ensures.kept c.in-Err-make_file.ensures.err
           c.in-Err-make_file.ensures.stored c.in-Err-make_file.ensures.served);
-      beside = beside (g.G.Pages.store c.args.g.now) z (g.G.Pages.store c.args.g.now).areas (g.G.Pages.store c.args.g.now).block_of (g.G.Pages.store c.args.g.now).blocks_used c.in-Err-make_file.ensures.err;
+      beside = beside (g.G.PageStore.store c.args.g.now) z (g.G.PageStore.store c.args.g.now).areas (g.G.PageStore.store c.args.g.now).block_of (g.G.PageStore.store c.args.g.now).blocks_used c.in-Err-make_file.ensures.err;
       memory = c.in-Err-make_file.ensures.memory;
       served = c.in-Err-make_file.ensures.served;
     }
@@ -106,7 +106,7 @@ returns-in-Err-make_file-clause-notes g c =
     let first : c.self.inside.blocks_used ≡ c.args.self.now.blocks_used = ap (λ (t : Tables). t.blocks_used) c.self.view_is in
     record {
       notes = c.in-Err-make_file.ensures.notes;
-      written = λ paged. subst (λ (k : ℕ). FileMade {T = Unit {0}} k c.args.pages (Err c.in-Err-make_file.fault) (g.G.Pages.store c.args.g.now) (g.G.Pages.store c.make_file.new.self)) first (c.in-Err-make_file.ensures.file paged);
+      written = λ paged. subst (λ (k : ℕ). FileMade {T = Unit {0}} k c.args.pages (Err c.in-Err-make_file.fault) (g.G.PageStore.store c.args.g.now) (g.G.PageStore.store c.make_file.new.self)) first (c.in-Err-make_file.ensures.file paged);
       loans = c.in-Err-make_file.ensures.loans;
     }
 
@@ -122,18 +122,18 @@ returns-in-Ok-make_file-clause-files g c =
       ok = file_now c.self.inside c.args.name c.args.pages c.args.byte c.self.view_is (c.list_file.ensures.entries ∙ c.grow_for_file-grown.ensures.listed.entries) (areas_are g c) (files_are g c)
           c.requires.new.some c.requires.new.unnamed c.requires.new.room;
       err = tt;
-      made = c.in-Ok-make_file.ensures.made ∙ ap (λ (k : ℕ). with_file k c.args.pages c.args.byte (g.G.Pages.contents c.args.g.now)) at;
+      made = c.in-Ok-make_file.ensures.made ∙ ap (λ (k : ℕ). with_file k c.args.pages c.args.byte (g.G.PageStore.contents c.args.g.now)) at;
       kept = tt;
     }
 
 pub returns-in-Ok-make_file-clause-stored : goal.returns-in-Ok-make_file-clause-stored
 returns-in-Ok-make_file-clause-stored g c =
-    let s = g.G.Pages.store c.args.g.now in
-    let z = g.G.Pages.store c.make_file.new.self in
+    let s = g.G.PageStore.store c.args.g.now in
+    let z = g.G.PageStore.store c.make_file.new.self in
     record {
       fits = file_fits c.self.inside c.args.name c.args.pages c.args.byte c.self.view_is (c.list_file.ensures.entries ∙ c.grow_for_file-grown.ensures.listed.entries) (areas_are g c) (files_are g c)
           c.requires.new.some c.requires.new.unnamed c.requires.new.room
-          c.len.result (g.G.Pages.contents c.args.g.now) (g.G.Pages.contents c.make_file.new.self) s z c.requires.fits (at_end g c)
+          c.len.result (g.G.PageStore.contents c.args.g.now) (g.G.PageStore.contents c.make_file.new.self) s z c.requires.fits (at_end g c)
           c.in-Ok-make_file.ensures.made c.in-Ok-make_file.ensures.ok c.in-Ok-make_file.ensures.stored c.in-Ok-make_file.ensures.served;
       beside = beside s z (changed ◌==◌ s.areas c.len.result (Some c.args.pages)) (with_blocks c.len.result c.args.pages c.self.inside.blocks_used s.block_of) (s.blocks_used + c.args.pages) c.in-Ok-make_file.ensures.ok;
       memory = c.in-Ok-make_file.ensures.memory;
@@ -152,6 +152,6 @@ returns-in-Ok-make_file-clause-notes g c =
     let first : c.self.inside.blocks_used ≡ c.args.self.now.blocks_used = ap (λ (t : Tables). t.blocks_used) c.self.view_is in
     record {
       notes = c.in-Ok-make_file.ensures.notes;
-      written = λ paged. subst (λ (k : ℕ). WritesFile k c.args.pages true (g.G.Pages.store c.args.g.now) (g.G.Pages.store c.make_file.new.self)) first (c.in-Ok-make_file.ensures.file paged);
+      written = λ paged. subst (λ (k : ℕ). WritesFile k c.args.pages true (g.G.PageStore.store c.args.g.now) (g.G.PageStore.store c.make_file.new.self)) first (c.in-Ok-make_file.ensures.file paged);
       loans = c.in-Ok-make_file.ensures.loans;
     }

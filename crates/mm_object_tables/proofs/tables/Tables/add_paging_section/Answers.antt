@@ -45,22 +45,22 @@ invariant_of-self g c =
 
 pub returns-in_err-made-clause-settles : goal.returns-in_err-made-clause-settles
 returns-in_err-made-clause-settles g c =
-    out_of_memory g.G.Pages c.from_residual.result c.requires.ready.fits
+    out_of_memory g.G.PageStore c.from_residual.result c.requires.ready.fits
     (same_tables c.self.inside (room_alone (lent g (goal.at.returns-in_err-made-clause-settles g c).After-handles_of-handles) c.grow_for_paging.new.handles c.grow_for_paging.ensures.same) c.grow_for_paging.ensures.listed.entries c.grow_for_paging.ensures.areas c.grow_for_paging.ensures.listed.files c.self.view_is)
     (record { contents = refl; store = refl; later = omega arith })
 
 pub returns-in_err-made-clause-makes : goal.returns-in_err-made-clause-makes
-returns-in_err-made-clause-makes g c = pages_idle g.G.Pages c.from_residual.result (idle g.G.Pages c.args.g.now) refl
+returns-in_err-made-clause-makes g c = pages_idle g.G.PageStore c.from_residual.result (idle g.G.PageStore c.args.g.now) refl
 
 pub open_paging_area-requires-clause-new : goal.open_paging_area-requires-clause-new
 open_paging_area-requires-clause-new g c =
     let at : c.len.result ≡ length c.args.self.now.areas = omega (arith, c.len.ensures, c.self.inside.areas.ok.0, ap (λ (t : Tables). length t.areas) c.self.view_is) in
     record {
-      new = area_free c.args.self.now (g.G.Pages.contents c.args.g.now) (g.G.Pages.store c.args.g.now) c.len.result c.requires.ready.fits at;
+      new = area_free c.args.self.now (g.G.PageStore.contents c.args.g.now) (g.G.PageStore.store c.args.g.now) c.len.result c.requires.ready.fits at;
       few = omega (arith, at, c.requires.few.areas);
       some = c.requires.some;
       within = committed_few c.args.pages c.args.committed c.pages_if-n.result c.pages_if-n.ensures;
-      dead = λ i. key_free c.args.self.now (g.G.Pages.contents c.args.g.now) (g.G.Pages.store c.args.g.now) (record { 0 = c.len.result }) i c.requires.ready.fits at;
+      dead = λ i. key_free c.args.self.now (g.G.PageStore.contents c.args.g.now) (g.G.PageStore.store c.args.g.now) (record { 0 = c.len.result }) i c.requires.ready.fits at;
     }
 
 pub open_paging_area-requires-clause-keys : goal.open_paging_area-requires-clause-keys
@@ -74,13 +74,13 @@ invariant_of-self-in_err-open_paging_area g c =
 
 pub returns-in_err-open_paging_area-clause-settles : goal.returns-in_err-open_paging_area-clause-settles
 returns-in_err-open_paging_area-clause-settles g c =
-    out_of_memory g.G.Pages c.from_residual-in_err-open_paging_area.result c.requires.ready.fits
+    out_of_memory g.G.PageStore c.from_residual-in_err-open_paging_area.result c.requires.ready.fits
     (same_tables c.self.inside (room_alone (lent g (goal.at.returns-in_err-open_paging_area-clause-settles g c).After-handles_of-handles) c.grow_for_paging.new.handles c.grow_for_paging.ensures.same) c.grow_for_paging.ensures.listed.entries c.grow_for_paging.ensures.areas c.grow_for_paging.ensures.listed.files c.self.view_is)
     c.in_err-open_paging_area.ensures.err
 
 pub returns-in_err-open_paging_area-clause-makes : goal.returns-in_err-open_paging_area-clause-makes
 returns-in_err-open_paging_area-clause-makes g c =
-    pages_as g.G.Pages c.from_residual-in_err-open_paging_area.result (on_err c.from_residual-in_err-open_paging_area.result c.in_err-open_paging_area.ensures.makes.idle) c.open_paging_area.ensures.makes
+    pages_as g.G.PageStore c.from_residual-in_err-open_paging_area.result (on_err c.from_residual-in_err-open_paging_area.result c.in_err-open_paging_area.ensures.makes.idle) c.open_paging_area.ensures.makes
 
 pub list_section-handle-requires-clause-can : goal.list_section-handle-requires-clause-can
 list_section-handle-requires-clause-can g c =
@@ -102,16 +102,16 @@ returns-clause-ok g c p lives =
 
 pub returns-clause-settles : goal.returns-clause-settles
 returns-clause-settles g c =
-    let z = g.G.Pages.store c.open_paging_area.new.g in
+    let z = g.G.PageStore.store c.open_paging_area.new.g in
     let p = some_found (process_of c.args.self.now c.args.pid.0) c.requires.ready.lives in
     let room : charge (as_kept c.self.inside) + committed_pages c.args.pages c.args.committed ≤ z.room =
     omega (arith, c.in_ok-open_paging_area.ensures.room, c.now.ensures.charge, c.self.invariant.charged, c.pages_if-n.ensures) in
     record {
       err = tt;
       settled = paging_settled (listed g c) p.0 p.1 c.args.pages c.args.committed (at_end g c) c.requires.some (areas_are g c)
-          (record { 0 = c.len.result }) c.pages_if-n.result (g.G.Pages.contents c.args.g.now) (g.G.Pages.contents c.open_paging_area.new.g) (g.G.Pages.store c.args.g.now) z refl
+          (record { 0 = c.len.result }) c.pages_if-n.result (g.G.PageStore.contents c.args.g.now) (g.G.PageStore.contents c.open_paging_area.new.g) (g.G.PageStore.store c.args.g.now) z refl
           c.requires.ready.fits c.pages_if-n.ensures c.in_ok-open_paging_area.ensures.ok room;
     }
 
 pub returns-clause-makes : goal.returns-clause-makes
-returns-clause-makes g c = pages_as g.G.Pages _ tt c.open_paging_area.ensures.makes
+returns-clause-makes g c = pages_as g.G.PageStore _ tt c.open_paging_area.ensures.makes

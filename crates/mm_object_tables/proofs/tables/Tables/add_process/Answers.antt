@@ -30,6 +30,6 @@ returns-clause-ok g c = ap (λ ps. shown_as c.self.inside ps) c.in_ok-push_proce
 pub returns-clause-fits : goal.returns-clause-fits
 returns-clause-fits g c =
     let now = ap (λ ps. shown_as c.self.inside ps) c.in_ok-push_process.ensures.added ∙ ap more c.self.view_is in
-    subst (λ (t : Tables). FitsTables t (g.G.Pages.contents c.push_process.new.g) (g.G.Pages.store c.push_process.new.g)) (sym now)
-    (more_fits c.args.self.now (g.G.Pages.contents c.args.g.now) (g.G.Pages.contents c.push_process.new.g) (g.G.Pages.store c.args.g.now) (g.G.Pages.store c.push_process.new.g) c.args.pid.0
+    subst (λ (t : Tables). FitsTables t (g.G.PageStore.contents c.push_process.new.g) (g.G.PageStore.store c.push_process.new.g)) (sym now)
+    (more_fits c.args.self.now (g.G.PageStore.contents c.args.g.now) (g.G.PageStore.contents c.push_process.new.g) (g.G.PageStore.store c.args.g.now) (g.G.PageStore.store c.push_process.new.g) c.args.pid.0
     c.requires.next c.requires.starts.fits c.in_ok-push_process.ensures.store c.requires.starts.last_pid c.push_process.ensures.idles.contents)

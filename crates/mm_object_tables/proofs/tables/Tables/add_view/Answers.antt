@@ -37,7 +37,7 @@ make_view-requires g c =
       bind = record {
         within = omega (arith, c.now.ensures.charge, h.kept.charged, c.marked_pages-charged.ensures.charged, c.requires.room, ap limit_of c.requires.ready.fits.machine);
         opened = c.requires.ready.fits.opened c.args.pid.0 ∙ c.requires.ready.lives;
-        unbound = unbound c.args.self.now c.args.pid h.process c.args.range c.args.view h.lives new.free (g.G.Pages.contents c.args.g.now) (g.G.Pages.store c.args.g.now)
+        unbound = unbound c.args.self.now c.args.pid h.process c.args.range c.args.view h.lives new.free (g.G.PageStore.contents c.args.g.now) (g.G.PageStore.store c.args.g.now)
             h.kept.sound c.requires.ready.fits c.requires.ready.kind_is;
       };
     }
@@ -47,7 +47,7 @@ invariant_of-self g c = kept_same (held g (goal.at.invariant_of-self g c).After-
 
 pub returns-in_err-make_view-clause-settles : goal.returns-in_err-make_view-clause-settles
 returns-in_err-make_view-clause-settles g c =
-    out_of_memory g.G.Pages c.from_residual.result c.requires.ready.fits
+    out_of_memory g.G.PageStore c.from_residual.result c.requires.ready.fits
     (same_tables (held g (goal.at.returns-in_err-make_view-clause-settles g c).After-space_of-space) c.make_view.new.space c.in_err-make_view.ensures.kept)
     (record { contents = c.make_view.ensures.idles.contents; store = c.in_err-make_view.ensures.err.store; later = c.in_err-make_view.ensures.err.later })
 
@@ -74,7 +74,7 @@ returns-clause-settles g c =
     let charged = c.self.invariant.charged ∙ ap (λ (t : Tables). charge t) c.self.view_is in
     record {
       err = tt;
-      settled = view_settled (adds g c) p.0 p.1 (g.G.Pages.contents c.args.g.now) (g.G.Pages.contents c.make_view.new.g) (g.G.Pages.store c.args.g.now) (g.G.Pages.store c.make_view.new.g)
+      settled = view_settled (adds g c) p.0 p.1 (g.G.PageStore.contents c.args.g.now) (g.G.PageStore.contents c.make_view.new.g) (g.G.PageStore.store c.args.g.now) (g.G.PageStore.store c.make_view.new.g)
           c.requires.ready.fits c.make_view.ensures.idles.contents c.in_ok-make_view.ensures.binds.bound
           (omega (arith, c.in_ok-make_view.ensures.binds.room, c.now.ensures.charge, charged, c.marked_pages-charged.ensures.charged));
     }

@@ -76,5 +76,5 @@ returns-in_default-ended g c =
     record {
       closed = λ p lives. e.is ∙ close_named k c.args.handle c.requires.there c.handles_of-handles.ensures.value p lives;
       shrinks = record { settled = e.settled; less = e.less_live; loans = refl };
-      passes = λ held from to for low high. turns_same g.G.Pages.unpaged (Ends held from to) (g.G.Pages.store c.args.g.now) (g.G.Pages.behind c.args.g.now);
+      passes = λ held from to for low high. turns_same g.G.PageStore.unpaged (Ends held from to) (g.G.PageStore.store c.args.g.now) (g.G.PageStore.behind c.args.g.now);
     }

@@ -15,9 +15,9 @@ close_handle-requires-clause-there g c p lives =
 
 pub loop-handle-init : goal.loop-handle-init
 loop-handle-init g c = record {
-  toward = toward_same c.args.pid.0 c.args.self.now (g.G.Pages.contents c.args.g.now) (g.G.Pages.store c.args.g.now) c.requires.ready.fits;
+  toward = toward_same c.args.pid.0 c.args.self.now (g.G.PageStore.contents c.args.g.now) (g.G.PageStore.store c.args.g.now) c.requires.ready.fits;
   lives = c.requires.ready.lives;
-  closed = (0, omega arith, (λ p lives j h. absurd (omega (arith, h))), (λ held for. turns_same g.G.Pages.unpaged (Ends held 1 1) (g.G.Pages.store c.args.g.now) (g.G.Pages.behind c.args.g.now)));
+  closed = (0, omega arith, (λ p lives j h. absurd (omega (arith, h))), (λ held for. turns_same g.G.PageStore.unpaged (Ends held 1 1) (g.G.PageStore.store c.args.g.now) (g.G.PageStore.behind c.args.g.now)));
   loans = refl;
 }
 
@@ -41,7 +41,7 @@ loop-handle-preserved g c =
         next.few,
         next.none,
         (λ held for.
-            ends_then g.G.Pages.unpaged held 1 (before.closed.0 + 1) (c.in-Some.handle / 4 + 1 + 1) (g.G.Pages.store c.args.g.now) (g.G.Pages.store c.loop-handle.g) (g.G.Pages.store c.close_handle.new.g) (g.G.Pages.behind c.args.g.now) (g.G.Pages.behind c.loop-handle.g) (g.G.Pages.behind c.close_handle.new.g)
+            ends_then g.G.PageStore.unpaged held 1 (before.closed.0 + 1) (c.in-Some.handle / 4 + 1 + 1) (g.G.PageStore.store c.args.g.now) (g.G.PageStore.store c.loop-handle.g) (g.G.PageStore.store c.close_handle.new.g) (g.G.PageStore.behind c.args.g.now) (g.G.PageStore.behind c.loop-handle.g) (g.G.PageStore.behind c.close_handle.new.g)
             (omega arith) (omega (arith, next.more)) (before.closed.3 held for)
             (c.close_handle.ensures.passes held (before.closed.0 + 1) (c.in-Some.handle / 4 + 1 + 1) (before.toward.ranks held.rank for) (omega (arith, next.more)) (omega arith))),
       );
@@ -62,5 +62,5 @@ returns-clause-closed g c p lives = no_lowest p.handles (sym (c.lowest_handle.en
 pub returns-clause-passes : goal.returns-clause-passes
 returns-clause-passes g c held for =
     let k = c.loop-handle.invariant.closed in
-    ends_wider g.G.Pages.unpaged held 1 (k.0 + 1) 1 (page_rank 0) (g.G.Pages.store c.args.g.now) (g.G.Pages.store c.loop-handle.g) (g.G.Pages.behind c.args.g.now) (g.G.Pages.behind c.loop-handle.g)
+    ends_wider g.G.PageStore.unpaged held 1 (k.0 + 1) 1 (page_rank 0) (g.G.PageStore.store c.args.g.now) (g.G.PageStore.store c.loop-handle.g) (g.G.PageStore.behind c.args.g.now) (g.G.PageStore.behind c.loop-handle.g)
     (omega arith) (omega (arith, k.1)) (k.3 held for)

@@ -23,10 +23,10 @@ stands g c =
     (omega arith, omega (arith, end))
 
 -- there may be more room, and the tables still fit
-more : (g : given.Over) (c : After-reserve g) → Roomier (g.G.Pages.contents c.args.g.now) (g.G.Pages.contents c.reserve.new.self) (g.G.Pages.store c.args.g.now) (g.G.Pages.store c.reserve.new.self)
+more : (g : given.Over) (c : After-reserve g) → Roomier (g.G.PageStore.contents c.args.g.now) (g.G.PageStore.contents c.reserve.new.self) (g.G.PageStore.store c.args.g.now) (g.G.PageStore.store c.reserve.new.self)
 more g c = record { contents = c.reserve.ensures.contents; store = c.reserve.ensures.store; later = c.reserve.ensures.later }
 
-fits : (g : given.Over) (c : After-reserve g) → FitsTables c.args.self.now (g.G.Pages.contents c.reserve.new.self) (g.G.Pages.store c.reserve.new.self)
+fits : (g : given.Over) (c : After-reserve g) → FitsTables c.args.self.now (g.G.PageStore.contents c.reserve.new.self) (g.G.PageStore.store c.reserve.new.self)
 fits g c = (roomier_settled c.requires.ready.fits refl (more g c)).fits
 
 held : (g : given.Over) (c : After-space_of-space g) → Held c.self.inside c.args.self.now c.args.pid.0 c.index_mut.result.now c.space_of-space.result.now.regions
@@ -37,7 +37,7 @@ returns-in_err-reserve-clause-among g c = stands g (goal.at.returns-in_err-reser
 
 pub returns-in_err-reserve-clause-settles : goal.returns-in_err-reserve-clause-settles
 returns-in_err-reserve-clause-settles g c =
-    out_of_memory g.G.Pages c.from_residual.result c.requires.ready.fits refl (more g (goal.at.returns-in_err-reserve-clause-settles g c).After-reserve)
+    out_of_memory g.G.PageStore c.from_residual.result c.requires.ready.fits refl (more g (goal.at.returns-in_err-reserve-clause-settles g c).After-reserve)
 
 pub returns-in_err-reserve-clause-makes : goal.returns-in_err-reserve-clause-makes
 returns-in_err-reserve-clause-makes g c = record {
@@ -59,7 +59,7 @@ add_pages-requires g c =
     record {
       known = tt;
       end = ends c.args.self.now c.args.pid h.process _ _ h.lives h.kept.sound f r.0.place r.0.thing c.args.range a.at a.inside;
-      can = subst (λ rs. CanAdd c.args.pid c.args.range rs (g.G.Pages.contents c.reserve.new.self) (g.G.Pages.store c.reserve.new.self)) (sym h.same)
+      can = subst (λ rs. CanAdd c.args.pid c.args.range rs (g.G.PageStore.contents c.reserve.new.self) (g.G.PageStore.store c.reserve.new.self)) (sym h.same)
           (can_add c.args.self.now c.args.pid h.process _ _ h.lives h.kept.sound f r.0.place r.0.thing c.args.range a.at a.inside (c.requires.can.private h.process r.0 h.lives r.1) c.args.n
           (omega (arith, c.requires.can.counted h.process h.lives, a.owned)) (omega (arith, c.now.ensures.charge, h.kept.charged, c.in_ok-reserve.ensures.ok))
           (ap (λ (x : StoreOf). x.kind) c.reserve.ensures.store ∙ c.requires.ready.kind_is));
@@ -79,7 +79,7 @@ invariant_of-self g c =
     let h = held g (goal.at.invariant_of-self g c).After-space_of-space in
     let r = some_found (region_around h.process.regions c.args.range) (c.requires.can.inside h.process h.lives) in
     let adds = c.add_pages.ensures.adds in
-    let room : c.now.result + c.args.n ≤ (g.G.Pages.store c.add_pages.new.g).room = omega (arith, c.in_ok-reserve.ensures.ok, ap (λ (x : StoreOf). x.room) adds.store) in
+    let room : c.now.result + c.args.n ≤ (g.G.PageStore.store c.add_pages.new.g).room = omega (arith, c.in_ok-reserve.ensures.ok, ap (λ (x : StoreOf). x.room) adds.store) in
     let done = commit_done c.args.self.now c.args.pid h.process c.args.range _ _ _ _ h.lives h.kept.sound (fits g (goal.at.invariant_of-self g c).After-reserve) r.0 c.args.prot c.args.n r.1 (c.requires.can.private h.process r.0 h.lives r.1) c.requires.can.allowed (c.requires.can.counted h.process h.lives)
     (keys_stored adds) (ap (λ (x : StoreOf). x.paging_keys) adds.store) (omega (arith, c.now.ensures.charge, h.kept.charged, room)) in
     let became = around_became h c.args.range c.commit.new.self (λ r. commit tt c.args.prot) c.commit.ensures.changed h.process r.0 h.lives r.1 in
@@ -96,7 +96,7 @@ returns-clause-settles g c =
     let r = some_found (region_around h.process.regions c.args.range) (c.requires.can.inside h.process h.lives) in
     let adds = c.add_pages.ensures.adds in
     let before = (goal.at.returns-clause-settles g c).After-reserve in
-    let room : c.now.result + c.args.n ≤ (g.G.Pages.store c.add_pages.new.g).room = omega (arith, c.in_ok-reserve.ensures.ok, ap (λ (x : StoreOf). x.room) adds.store) in
+    let room : c.now.result + c.args.n ≤ (g.G.PageStore.store c.add_pages.new.g).room = omega (arith, c.in_ok-reserve.ensures.ok, ap (λ (x : StoreOf). x.room) adds.store) in
     let done = commit_done c.args.self.now c.args.pid h.process c.args.range _ _ _ _ h.lives h.kept.sound (fits g before) r.0 c.args.prot c.args.n r.1 (c.requires.can.private h.process r.0 h.lives r.1) c.requires.can.allowed (c.requires.can.counted h.process h.lives)
     (keys_stored adds) (ap (λ (x : StoreOf). x.paging_keys) adds.store) (omega (arith, c.now.ensures.charge, h.kept.charged, room)) in
     record {
@@ -111,8 +111,8 @@ pub returns-clause-makes : goal.returns-clause-makes
 returns-clause-makes g c = record {
   later = omega (arith, c.reserve.ensures.later, ap (λ (x : StoreOf). x.room) c.add_pages.ensures.adds.store);
   passes = λ from to stands.
-      idle_before g.G.Pages.unpaged (MakesFrom from to) (g.G.Pages.store c.args.g.now) (g.G.Pages.store c.reserve.new.self) (g.G.Pages.store c.add_pages.new.g)
-      (g.G.Pages.behind c.args.g.now) (g.G.Pages.behind c.reserve.new.self) (g.G.Pages.behind c.add_pages.new.g) c.reserve.ensures.passes (c.add_pages.ensures.passes from to stands);
+      idle_before g.G.PageStore.unpaged (MakesFrom from to) (g.G.PageStore.store c.args.g.now) (g.G.PageStore.store c.reserve.new.self) (g.G.PageStore.store c.add_pages.new.g)
+      (g.G.PageStore.behind c.args.g.now) (g.G.PageStore.behind c.reserve.new.self) (g.G.PageStore.behind c.add_pages.new.g) c.reserve.ensures.passes (c.add_pages.ensures.passes from to stands);
   idle = tt;
   loans = c.add_pages.ensures.loans ∙ c.reserve.ensures.loans;
 }

@@ -10,7 +10,7 @@ use Rattle.mm_object_tables.proofs.tables.Tables.commit_view.Goals as goal
 use Rattle.mm_object_tables.proofs.tables.Tables.commit_view.Goals.{After-space_of, After-take}
 
 -- what is known before pages come to be
-commits : (g : given.Over) (c : goal.After-range g) → CommitsView c.self.inside c.args.self.now c.args.pid c.args.range c.args.prot c.args.n c.view_of-offset.result.0 c.view_of-offset.result.1 c.range.inside.count (g.G.Pages.contents c.args.g.now) (g.G.Pages.store c.args.g.now)
+commits : (g : given.Over) (c : goal.After-range g) → CommitsView c.self.inside c.args.self.now c.args.pid c.args.range c.args.prot c.args.n c.view_of-offset.result.0 c.view_of-offset.result.1 c.range.inside.count (g.G.PageStore.contents c.args.g.now) (g.G.PageStore.store c.args.g.now)
 commits g c =
     let count = ap (λ (r : Range). r.count) c.range.view_is in
     let some : 1 ≤ c.range.inside.count = omega (arith, c.range.invariant, count) in
@@ -21,7 +21,7 @@ held : (g : given.Over) (c : After-space_of g) → Held c.self.inside c.args.sel
 held g c = held_by c.self.inside c.args.self.now c.self.view_is c.self.invariant c.args.pid.0 c.index_mut.result.now c.requires.ready.lives c.index_mut.ensures.value c.space_of.ensures.value
 
 -- and after they did
-commits_then : (g : given.Over) (c : After-take g) → CommitsView c.self.inside c.args.self.now c.args.pid c.args.range c.args.prot c.args.n c.view_of-offset.result.0 c.view_of-offset.result.1 c.range.inside.count (g.G.Pages.contents c.args.g.now) (g.G.Pages.store c.args.g.now)
+commits_then : (g : given.Over) (c : After-take g) → CommitsView c.self.inside c.args.self.now c.args.pid c.args.range c.args.prot c.args.n c.view_of-offset.result.0 c.view_of-offset.result.1 c.range.inside.count (g.G.PageStore.contents c.args.g.now) (g.G.PageStore.store c.args.g.now)
 commits_then g c =
     let count = ap (λ (r : Range). r.count) c.range.view_is in
     let some : 1 ≤ c.range.inside.count = omega (arith, c.range.invariant, count) in
@@ -74,7 +74,7 @@ view_of-offset-requires g c =
 
 pub share_pages-requires-clause-can : goal.share_pages-requires-clause-can
 share_pages-requires-clause-can g c =
-    can_share (commits g c) (g.G.Pages.contents c.reserve.new.self) (g.G.Pages.store c.reserve.new.self) c.reserve.ensures.contents c.reserve.ensures.store c.reserve.ensures.later
+    can_share (commits g c) (g.G.PageStore.contents c.reserve.new.self) (g.G.PageStore.store c.reserve.new.self) c.reserve.ensures.contents c.reserve.ensures.store c.reserve.ensures.later
     (omega (arith, c.in_ok-reserve.ensures.ok, c.now.ensures.charge)) c.requires.ready.kind_is
 
 pub invariant_of-self : goal.invariant_of-self
@@ -86,20 +86,20 @@ returns-clause-settles g c =
     record {
       err = tt;
       settled = commits_settled (commits_then g c) (after g c) c.share_pages.new.areas.items (committed g c)
-          (g.G.Pages.contents c.reserve.new.self) (g.G.Pages.contents c.share_pages.new.g) (g.G.Pages.store c.reserve.new.self) (g.G.Pages.store c.share_pages.new.g)
+          (g.G.PageStore.contents c.reserve.new.self) (g.G.PageStore.contents c.share_pages.new.g) (g.G.PageStore.store c.reserve.new.self) (g.G.PageStore.store c.share_pages.new.g)
           c.reserve.ensures.contents c.reserve.ensures.store c.reserve.ensures.later (omega (arith, c.in_ok-reserve.ensures.ok, c.now.ensures.charge)) c.share_pages.ensures.shared.shares;
     }
 
 pub returns-in_err-reserve-clause-settles : goal.returns-in_err-reserve-clause-settles
 returns-in_err-reserve-clause-settles g c =
-    out_of_memory g.G.Pages c.from_residual.result c.requires.ready.fits refl (record { contents = c.reserve.ensures.contents; store = c.reserve.ensures.store; later = c.reserve.ensures.later })
+    out_of_memory g.G.PageStore c.from_residual.result c.requires.ready.fits refl (record { contents = c.reserve.ensures.contents; store = c.reserve.ensures.store; later = c.reserve.ensures.later })
 
 pub returns-clause-ok : goal.returns-clause-ok
 returns-clause-ok g c p r v lives around is_view =
     commits_now (commits_then g c) (after g c) c.share_pages.new.areas.items (committed g c) p r v lives around is_view
 
 pub returns-clause-makes : goal.returns-clause-makes
-returns-clause-makes g c = pages_then g.G.Pages c.reserve.new.self c.reserve.ensures.passes c.reserve.ensures.loans c.share_pages.ensures.shared.passes c.share_pages.ensures.shared.loans
+returns-clause-makes g c = pages_then g.G.PageStore c.reserve.new.self c.reserve.ensures.passes c.reserve.ensures.loans c.share_pages.ensures.shared.passes c.share_pages.ensures.shared.loans
 
 pub returns-in_err-reserve-clause-makes : goal.returns-in_err-reserve-clause-makes
-returns-in_err-reserve-clause-makes g c = pages_idle g.G.Pages c.from_residual.result c.reserve.ensures.passes c.reserve.ensures.loans
+returns-in_err-reserve-clause-makes g c = pages_idle g.G.PageStore c.from_residual.result c.reserve.ensures.passes c.reserve.ensures.loans

@@ -50,5 +50,5 @@ returns g c =
     c.release_pages-owned.ensures.owned c.decommit.ensures.changed c.release_pages-owned.ensures.gives_up.given_up in
     record {
       changed = freed_named h c.decommit.new.self (λ rs. region_around rs c.args.range) (λ rs r. set rs r.place (change_rows (λ row. reserved_row) c.args.range r.thing)) c.decommit.ensures.changed;
-      frees = frees g.G.Pages (freed_settled c.args.pid h f) (decommit_among c.args.pid h c.args.range c.requires.inside c.requires.private c.requires.ready.fits f c.release_pages-owned.ensures.gives_up.given_up) c.release_pages-owned.ensures.gives_up;
+      frees = frees g.G.PageStore (freed_settled c.args.pid h f) (decommit_among c.args.pid h c.args.range c.requires.inside c.requires.private c.requires.ready.fits f c.release_pages-owned.ensures.gives_up.given_up) c.release_pages-owned.ensures.gives_up;
     }

@@ -21,7 +21,7 @@ loop-info-preserved g c =
       closed = λ q now k. ap (λ (hs : Numbered ℕ). numbered hs k) (c.drop_lowest.ensures.fewer p.0 q p.1 now).same ∙ c.loop-info.invariant.closed p.0 p.1 k;
       passes = λ held for all.
           let q = some_found (process_of c.drop_lowest.new.self c.args.pid.0) c.drop_lowest.ensures.nears.lives in
-          regions_then g.G.Pages.unpaged held c.args.pid c.loop-info.self c.drop_lowest.new.self p.0 q.0 c.in-Some.info (g.G.Pages.store c.args.g.now) (g.G.Pages.store c.loop-info.g) (g.G.Pages.store c.drop_lowest.new.g) (g.G.Pages.behind c.args.g.now) (g.G.Pages.behind c.loop-info.g) (g.G.Pages.behind c.drop_lowest.new.g)
+          regions_then g.G.PageStore.unpaged held c.args.pid c.loop-info.self c.drop_lowest.new.self p.0 q.0 c.in-Some.info (g.G.PageStore.store c.args.g.now) (g.G.PageStore.store c.loop-info.g) (g.G.PageStore.store c.drop_lowest.new.g) (g.G.PageStore.behind c.args.g.now) (g.G.PageStore.behind c.loop-info.g) (g.G.PageStore.behind c.drop_lowest.new.g)
           p.1 q.1 (c.lowest.ensures.sound.spaces c.args.pid.0 p.0 p.1) (sym c.in-Some.is ∙ c.lowest.ensures.found p.0 p.1) (c.drop_lowest.ensures.fewer p.0 q.0 p.1 q.1) all (c.loop-info.invariant.passes held for all)
           (λ from to among. c.drop_lowest.ensures.passes held from to (c.loop-info.invariant.toward.ranks held.rank for) among);
       loans = c.drop_lowest.ensures.nears.loans ∙ c.loop-info.invariant.loans;
@@ -39,5 +39,5 @@ returns-clause-empty g c p lives = no_region p.regions (sym (c.lowest.ensures.fo
 pub returns-clause-passes : goal.returns-clause-passes
 returns-clause-passes g c held for all =
     let p = some_found (process_of c.loop-info.self c.args.pid.0) c.loop-info.invariant.lives in
-    regions_end g.G.Pages.unpaged held c.loop-info.self c.args.pid.0 p.0 (g.G.Pages.store c.args.g.now) (g.G.Pages.store c.loop-info.g) (g.G.Pages.behind c.args.g.now) (g.G.Pages.behind c.loop-info.g)
+    regions_end g.G.PageStore.unpaged held c.loop-info.self c.args.pid.0 p.0 (g.G.PageStore.store c.args.g.now) (g.G.PageStore.store c.loop-info.g) (g.G.PageStore.behind c.args.g.now) (g.G.PageStore.behind c.loop-info.g)
     p.1 (no_region p.0.regions (sym (c.lowest.ensures.found p.0 p.1) ∙ c.in_default.is)) (c.loop-info.invariant.passes held for all)

@@ -9,12 +9,12 @@ use Rattle.mm_object_tables.proofs.tables.Tables.drop_regions.Given as goal
 
 abbrev pub invariant-loop-info : goal.invariant-loop-info
 invariant-loop-info g l = record {
-  toward : Toward l.pid.0 l.fn.self l.self (g.G.Pages.contents l.fn.g) (g.G.Pages.contents l.g) (g.G.Pages.store l.fn.g) (g.G.Pages.store l.g);
+  toward : Toward l.pid.0 l.fn.self l.self (g.G.PageStore.contents l.fn.g) (g.G.PageStore.contents l.g) (g.G.PageStore.store l.fn.g) (g.G.PageStore.store l.g);
   lives : is_some (process_of l.self l.pid.0) ≡ true;
   closed : (p : ProcessOf (Unit {0})) → process_of l.self l.pid.0 ≡ Some p → HasNoHandle p;
   passes : (held : Leaving) → IsRankFor held.rank l.pid.0 l.fn.self → ((page : ℕ) → held.places (place_at l.pid page) ≡ true) →
-      PassesIn g.G.Pages.unpaged (Turns (Ends held (page_rank 0) (page_rank (first_page (regions_in l.self l.pid.0))))) (g.G.Pages.store l.fn.g) (g.G.Pages.store l.g) (g.G.Pages.behind l.fn.g) (g.G.Pages.behind l.g);
-  loans : g.G.Pages.loans l.g ≡ g.G.Pages.loans l.fn.g;
+      PassesIn g.G.PageStore.unpaged (Turns (Ends held (page_rank 0) (page_rank (first_page (regions_in l.self l.pid.0))))) (g.G.PageStore.store l.fn.g) (g.G.PageStore.store l.g) (g.G.PageStore.behind l.fn.g) (g.G.PageStore.behind l.g);
+  loans : g.G.PageStore.loans l.g ≡ g.G.PageStore.loans l.fn.g;
 }
 
 abbrev pub decreases-loop-info : goal.decreases-loop-info

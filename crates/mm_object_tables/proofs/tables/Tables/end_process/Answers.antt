@@ -27,8 +27,8 @@ returns-clause-settled g c =
     let steps = toward_then c.close_handles.ensures.nears.toward c.drop_regions.ensures.nears.toward in
     record {
       fits = c.close_process.ensures.shrinks.settled.fits;
-      carries = carries_less (g.G.Pages.contents c.args.g.now) (g.G.Pages.contents c.close_process.new.g) (less_then (g.G.Pages.contents c.args.g.now) (g.G.Pages.contents c.drop_regions.new.g) (g.G.Pages.contents c.close_process.new.g) steps.less c.close_process.ensures.shrinks.less);
-      rest = beside_then (g.G.Pages.store c.args.g.now) (g.G.Pages.store c.drop_regions.new.g) (g.G.Pages.store c.close_process.new.g) steps.rest c.close_process.ensures.shrinks.settled.rest;
+      carries = carries_less (g.G.PageStore.contents c.args.g.now) (g.G.PageStore.contents c.close_process.new.g) (less_then (g.G.PageStore.contents c.args.g.now) (g.G.PageStore.contents c.drop_regions.new.g) (g.G.PageStore.contents c.close_process.new.g) steps.less c.close_process.ensures.shrinks.less);
+      rest = beside_then (g.G.PageStore.store c.args.g.now) (g.G.PageStore.store c.drop_regions.new.g) (g.G.PageStore.store c.close_process.new.g) steps.rest c.close_process.ensures.shrinks.settled.rest;
     }
 
 pub returns-clause-passes : goal.returns-clause-passes
@@ -37,8 +37,8 @@ returns-clause-passes g c places all =
     let held = leaving t c.args.pid.0 places in
     let ended = c.end_stacks_in.ensures.ended ∙ ap (λ (w : Tables). end_stacks w (λ s. s.pid == c.args.pid.0)) c.drop_kept.ensures.dropped in
     let own = subst (λ (w : Tables). IsRankFor (goes_with t c.args.pid.0) c.args.pid.0 w) (sym ended) (for_own t c.args.pid.0 c.sound.ensures.tidy) in
-    exit_then g.G.Pages.unpaged held (page_rank end_of_user_pages) (g.G.Pages.store c.args.g.now) (g.G.Pages.store c.close_handles.new.g) (g.G.Pages.store c.drop_regions.new.g) (g.G.Pages.store c.close_process.new.g)
-    (g.G.Pages.behind c.args.g.now) (g.G.Pages.behind c.close_handles.new.g) (g.G.Pages.behind c.drop_regions.new.g) (g.G.Pages.behind c.close_process.new.g)
+    exit_then g.G.PageStore.unpaged held (page_rank end_of_user_pages) (g.G.PageStore.store c.args.g.now) (g.G.PageStore.store c.close_handles.new.g) (g.G.PageStore.store c.drop_regions.new.g) (g.G.PageStore.store c.close_process.new.g)
+    (g.G.PageStore.behind c.args.g.now) (g.G.PageStore.behind c.close_handles.new.g) (g.G.PageStore.behind c.drop_regions.new.g) (g.G.PageStore.behind c.close_process.new.g)
     (omega arith) (c.close_handles.ensures.passes held own)
     (c.drop_regions.ensures.passes held (c.close_handles.ensures.nears.toward.ranks (goes_with t c.args.pid.0) own) (λ page. its_own c.args.pid places page (all page)))
     c.close_process.ensures.passes

@@ -53,4 +53,4 @@ returns-clause-settles g c =
     record { err = tt; settled = settled_as (around_changed h c.args.range c.protect.new.self (λ r. protected r.kind c.args.prot) c.protect.ensures.changed h.process r.0 h.lives r.1) done.settled }
 
 pub returns-in_err-grow_for_marks-clause-settles : goal.returns-in_err-grow_for_marks-clause-settles
-returns-in_err-grow_for_marks-clause-settles g c = out_of_memory g.G.Pages c.from_residual.result c.requires.ready.fits refl c.grow_for_marks.ensures.more
+returns-in_err-grow_for_marks-clause-settles g c = out_of_memory g.G.PageStore c.from_residual.result c.requires.ready.fits refl c.grow_for_marks.ensures.more

@@ -49,5 +49,5 @@ returns g c =
     record {
       changed = freed_named h c.remove.new.self (λ rs. private_at rs c.args.addr) (λ rs r. remove rs r.place) c.remove.ensures.private;
       less = given_less c.release_pages-freed.ensures.gives_up.given_up;
-      frees = frees g.G.Pages (freed_settled c.args.pid h f) (release_among c.args.pid h c.args.addr c.args.range c.requires.there c.requires.ready.fits f c.release_pages-freed.ensures.gives_up.given_up) c.release_pages-freed.ensures.gives_up;
+      frees = frees g.G.PageStore (freed_settled c.args.pid h f) (release_among c.args.pid h c.args.addr c.args.range c.requires.there c.requires.ready.fits f c.release_pages-freed.ensures.gives_up.given_up) c.release_pages-freed.ensures.gives_up;
     }

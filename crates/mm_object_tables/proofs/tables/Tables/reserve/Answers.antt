@@ -28,7 +28,7 @@ make_region-requires g c =
     record {
       new = subst (λ rs. IsNewRange rs c.args.range) (sym h.same) new;
       prot = c.requires.prot;
-      can = subst (λ rs. CanMake c.args.pid c.args.range c.args.kind total rs (g.G.Pages.contents c.args.g.now) (g.G.Pages.store c.args.g.now)) (sym h.same)
+      can = subst (λ rs. CanMake c.args.pid c.args.range c.args.kind total rs (g.G.PageStore.contents c.args.g.now) (g.G.PageStore.store c.args.g.now)) (sym h.same)
           (can_make c.args.self.now c.args.pid h.process _ _ h.lives h.kept.sound c.requires.ready.fits c.args.range c.args.kind total new.free
           (omega (arith, c.now.ensures.charge, h.kept.charged, c.new_pages-pages.ensures))
           (omega (arith, c.now.ensures.charge, h.kept.charged, c.new_pages-pages.ensures, ap limit_of c.requires.ready.fits.machine, c.requires.room)) c.requires.ready.kind_is);
@@ -39,7 +39,7 @@ invariant_of-self g c = kept_same (held g (goal.at.invariant_of-self g c).After-
 
 pub returns-in_err-make_region-clause-settles : goal.returns-in_err-make_region-clause-settles
 returns-in_err-make_region-clause-settles g c =
-    out_of_memory g.G.Pages c.from_residual.result c.requires.ready.fits (same_tables (held g (goal.at.returns-in_err-make_region-clause-settles g c).After-space_of-space) c.make_region.new.space c.in_err-make_region.ensures.kept) c.in_err-make_region.ensures.err
+    out_of_memory g.G.PageStore c.from_residual.result c.requires.ready.fits (same_tables (held g (goal.at.returns-in_err-make_region-clause-settles g c).After-space_of-space) c.make_region.new.space c.in_err-make_region.ensures.kept) c.in_err-make_region.ensures.err
 
 pub invariant_of-self-2 : goal.invariant_of-self-2
 invariant_of-self-2 g c =
@@ -79,7 +79,7 @@ pub returns-clause-among : goal.returns-clause-among
 returns-clause-among g c = stands g (goal.at.returns-clause-among g c).After-space_of-space
 
 pub returns-in_err-make_region-clause-makes : goal.returns-in_err-make_region-clause-makes
-returns-in_err-make_region-clause-makes g c = makes_as g.G.Pages c.from_residual.result (on_err c.from_residual.result c.in_err-make_region.ensures.makes.idle) c.make_region.ensures.makes
+returns-in_err-make_region-clause-makes g c = makes_as g.G.PageStore c.from_residual.result (on_err c.from_residual.result c.in_err-make_region.ensures.makes.idle) c.make_region.ensures.makes
 
 pub returns-clause-makes : goal.returns-clause-makes
-returns-clause-makes g c = makes_as g.G.Pages _ tt c.make_region.ensures.makes
+returns-clause-makes g c = makes_as g.G.PageStore _ tt c.make_region.ensures.makes

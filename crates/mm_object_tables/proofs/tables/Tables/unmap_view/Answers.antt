@@ -84,8 +84,8 @@ returns-in-Some g c =
       unbound = record { each = λ page held. ends_bound c.end_area.ensures.ends (place_at c.args.pid page) ∙ unbound.each page held; end = unbound.end };
       passes = λ held from to for among.
           let some = unmap_some c.args.pid k c.args.addr c.requires.there in
-          range_then g.G.Pages.unpaged held from to c.args.pid c.args.range (g.G.Pages.store c.args.g.now) (g.G.Pages.store c.release_pages.new.g) (g.G.Pages.store c.end_area.new.g)
-          (g.G.Pages.behind c.args.g.now) (g.G.Pages.behind c.release_pages.new.g) (g.G.Pages.behind c.end_area.new.g) some among (c.release_pages.ensures.gives_up.passes held)
+          range_then g.G.PageStore.unpaged held from to c.args.pid c.args.range (g.G.PageStore.store c.args.g.now) (g.G.PageStore.store c.release_pages.new.g) (g.G.PageStore.store c.end_area.new.g)
+          (g.G.PageStore.behind c.args.g.now) (g.G.PageStore.behind c.release_pages.new.g) (g.G.PageStore.behind c.end_area.new.g) some among (c.release_pages.ensures.gives_up.passes held)
           (c.end_area.ensures.passes held (page_rank (end_of c.args.range) - 1) to (λ paging.
           let at = ends_at w c.in-Some.is c.index_mut-pages.ensures.value paging held.rank for in
           (omega (arith, at), omega (arith, at, among.last, some))));

@@ -1,0 +1,288 @@
+#!/usr/bin/env python3
+"""Spoils what the checks look at, one thing at a time, and sees that the check fails: run by hand.
+
+    python3 checks/spoiled.py [--bin FOLDER] [--only CHECK]
+
+Each spoil is made in a copy of the repository, with programs that call the real ones. The check
+has to end with status 1 and say what is expected of it; on the copy without a spoil it has to pass.
+It takes some minutes, most of them for checks/show.py, and is no part of the gate. Prints a table.
+"""
+
+from __future__ import annotations
+
+import argparse
+import os
+import re
+import shutil
+import subprocess
+import sys
+import tempfile
+from concurrent.futures import ThreadPoolExecutor
+from pathlib import Path
+from typing import Callable, NamedTuple
+
+from common import PROGRAMS, TOP, begin
+
+# What makes a check quicker where it would look at much, and checks that read the crates.
+QUICK = {
+    "documents": ["--quick"],
+    "show": ["--few"],
+    "drawn": ["--seed", "1", "--scripts", "10", "--lines", "1000"],
+    "outside": ["--descriptors"],
+}
+WHOLE = ("faces", "prose", "documents")
+KEPT = (".ci", "checks", "crates", "docs", "examples", "tests", "tools", "web")
+
+
+class Room:
+    """A copy of the repository, and the programs that its checks are given.
+
+    The crates are copied, and git is told of the copy, only for a check that reads them.
+    """
+
+    def __init__(self, folder: str, programs: dict[str, str], is_whole: bool):
+        self.top = Path(folder) / "copy"
+        self.bin = Path(folder) / "bin"
+        self.bin.mkdir()
+        leave = shutil.ignore_patterns("out", "__pycache__", ".git")
+        for name in KEPT:
+            if name == "crates" and not is_whole:
+                (self.top / name).symlink_to(TOP / name)
+            else:
+                shutil.copytree(TOP / name, self.top / name, ignore=leave, symlinks=True)
+        for path in TOP.iterdir():
+            if path.is_file() and path.suffix not in (".log", ".html"):
+                shutil.copy2(path, self.top / path.name)
+        for words in (["init", "-q"], ["add", "-A"]) if is_whole else ():
+            subprocess.run(["git", *words], cwd=self.top, check=True)
+        self.real = programs
+        for name in PROGRAMS:
+            (self.bin / name).symlink_to(programs[name])
+
+    def edit(self, path: str, old: str, new: str) -> None:
+        """Puts a text in place of another, which has to be there."""
+        whole = (self.top / path).read_text(encoding="utf-8")
+        if old not in whole:
+            raise ValueError(f"{path} has no {old!r}")
+        (self.top / path).write_text(whole.replace(old, new, 1), encoding="utf-8")
+
+    def add(self, path: str, more: str) -> None:
+        """Adds to a file, or makes it."""
+        with open(self.top / path, "a", encoding="utf-8") as file:
+            file.write(more)
+
+    def remove(self, path: str) -> None:
+        (self.top / path).unlink()
+
+    def program(self, name: str, body: str) -> None:
+        """A shell script in place of a program; `$real` is the real one."""
+        path = self.bin / name
+        path.unlink()
+        path.write_text(f"#!/bin/bash\nreal={self.real[name]}\n{body}\n", encoding="utf-8")
+        path.chmod(0o755)
+
+    def lose(self, name: str) -> None:
+        (self.bin / name).unlink()
+
+    def check(self, name: str) -> "tuple[int, str]":
+        """The status and the output of a check here."""
+        words = [sys.executable, "-B", f"checks/{name}.py", "--bin", str(self.bin)]
+        words += QUICK.get(name, [])
+        if name.startswith("all "):
+            words = [sys.executable, "-B", "checks/all.py", "--bin", str(self.bin), name[4:]]
+        if name == "memory":
+            words = [sys.executable, "-B", "tools/refused-memory", "tests/rows/reserve-section.mm"]
+            words += [it for kind in PROGRAMS for it in (f"--{kind}", str(self.bin / kind))]
+        if name == "run":
+            words = ["bash", ".ci/run"]
+        env = {**os.environ, "PATH": f"{self.bin}:{os.environ['PATH']}"}
+        ended = subprocess.run(words, cwd=self.top, env=env, capture_output=True, timeout=1200)
+        return ended.returncode, (ended.stdout + ended.stderr).decode(errors="replace")
+
+
+class Spoil(NamedTuple):
+    """What is spoiled for a check, how, and what it says then, as a pattern."""
+
+    check: str
+    what: str
+    how: Callable[[Room], None]
+    said: str
+
+
+def piped(name: str, words: str, change: str) -> Callable[[Room], None]:
+    """A program whose standard output is changed by sed, where its words match a pattern."""
+    body = (
+        f'if [[ "$*" == {words} ]]; then "$real" "$@" | sed {change!r}; exit ${{PIPESTATUS[0]}}; fi'
+    )
+    return lambda room: room.program(name, body + '\nexec "$real" "$@"')
+
+
+def edited(path: str, old: str, new: str) -> Callable[[Room], None]:
+    return lambda room: room.edit(path, old, new)
+
+
+def stub(name: str, body: str) -> Callable[[Room], None]:
+    return lambda room: room.program(name, body)
+
+
+def unfaced(room: Room) -> None:
+    """A proof that names a module of another crate."""
+    words = [sys.executable, "-B", "checks/faces.py", "--write"]
+    subprocess.run(words, cwd=room.top, capture_output=True, check=False)
+    found = re.compile(r"^use Rattle\.(mm_\w+)\.specs\.\{(\w+)[^}]*\}$", re.MULTILINE)
+    for path in sorted((room.top / "crates").glob("*/proofs/*.antt")):
+        crate = path.parent.parent.name
+        for it in found.finditer(path.read_text(encoding="utf-8")):
+            face = (room.top / "crates" / it[1] / "specs/Lib.antt").read_text(encoding="utf-8")
+            module = re.search(rf"pub use ([\w.]+)\.\{{[^}}]*\b{it[2]}\b", face)
+            if it[1] != crate and module:
+                more = f"use Rattle.{it[1]}.specs.{module[1]}.{{{it[2]}}}\n"
+                path.write_text(more + path.read_text(encoding="utf-8"), encoding="utf-8")
+                return
+    raise ValueError("no proof to spoil")
+
+
+def silent(room: Room) -> None:
+    """A check that ends well and says nothing."""
+    (room.top / "checks/words.py").write_text("print()\n", encoding="utf-8")
+
+
+def failing_rt(room: Room) -> None:
+    """An `rt` that finds one crate wrong."""
+    path = room.bin / "rt"
+    path.write_text('#!/bin/bash\necho "54 passed, 1 failed"\nexit 1\n', encoding="utf-8")
+    path.chmod(0o755)
+    room.edit("checks/all.py", "names = words.names or", 'names = words.names or ["words"] or')
+
+
+ALWAYS_YES = '"$real" "$@"\n[ $? -ne 2 ] || exit 2\nexit 0'
+SPOILS = [
+    Spoil("rows", "a stored answer", edited("tests/rows/grow.out", "ok", "ok 1"), "grow: answers"),
+    Spoil("rows", "a stored move", edited("examples/hard-fault.log", "soil", "clear"), "moves"),
+    Spoil("rows", "the column of a fault",
+          edited("tests/rows/faults.txt", "19\talloc", "18\talloc"), "alloc 1 0 1 0x3000"),
+    Spoil("rows", "a line's answer by prepared.mm",
+          edited("tests/rows/lines.txt", "\tok 13 118", "\tok 12 118"), "charge"),
+    Spoil("rows", "an mmsim that adds a page to each charge",
+          piped("mmsim", "run", r"s/^ok 13 118$/ok 14 118/"), "charge"),
+    Spoil("rows", "an mmlog that takes every log", stub("mmlog", ALWAYS_YES), "logs/.*status"),
+    Spoil("rows", "the model: a guard that stays on",
+          edited("checks/reference/unpaged.py", "        row.guard = False\n        if page", "        if page"),
+          "without paging"),
+    Spoil("rows", "no mmlog", lambda room: room.lose("mmlog"), "there is no program"),
+    Spoil("examples", "an mmshow that always ends with 2", stub("mmshow", "exit 2"), "status"),
+    Spoil("examples", "no mmshow", lambda room: room.lose("mmshow"), "there is no program"),
+    Spoil("examples", "a word of a stored tell",
+          edited("examples/full-set.tell", "working set", "working-set"), "tell"),
+    Spoil("examples", "a file that nothing reads",
+          lambda room: room.add("examples/first.odd", "x\n"), "no check knows"),
+    Spoil("examples", "a script that no page prints",
+          edited("docs/GUIDE.md", "stack 0 1 0x10000", "stack 0 1 0x20000"), "prints it"),
+    Spoil("words", "a usage line",
+          edited("tests/rows/usage.txt", "faults | sums", "faults"), "mmshow"),
+    Spoil("words", "an mmlog that knows help",
+          stub("mmlog", '[ "$1" != help ] || exit 0\nexec "$real" "$@"'), "mmlog .'help"),
+    Spoil("words", "an mmshow without frames above 9",
+          stub("mmshow", '[[ "$*" != frame\\ ??* ]] || exit 2\nexec "$real" "$@"'), "frame"),
+    Spoil("names", "no mmsim", lambda room: room.lose("mmsim"), "there is no program"),
+    Spoil("names", "an mmnames that writes digits in lower case",
+          piped("mmnames", "''", "s/0xABCDEF09/0xabcdef09/"), "0xabcDEF09"),
+    Spoil("names", "what is told of a mistake",
+          edited("tests/mistakes/mistakes.txt", "is 'read' meant?", "is 'raed' meant?"), "told"),
+    Spoil("windows", "a verdict",
+          edited("tests/windows/MapViewOfFile.md", "differs; Wine", "agrees; Wine"),
+          "what it says of Windows"),
+    Spoil("windows", "a count",
+          edited("tests/windows/README.md", "| 31 | 22 | 9 |", "| 31 | 23 | 8 |"), "does not say"),
+    Spoil("windows", "a row that differs and is told nowhere",
+          edited("docs/WINDOWS.md", "#unmap-middle", "#unmap-twice"), "unmap"),
+    Spoil("hostile", "an mmsim whose faults end with status 0",
+          stub("mmsim", '"$real" "$@"\ns=$?\n[ $s -ne 3 ] || exit 0\nexit $s'), "byte"),
+    Spoil("hostile", "an mmsim that fails no read",
+          piped("mmsim", "run", "s/^raise 0xC0000006$/ok 00/"), "fail"),
+    Spoil("outside", "an mmlog that looks at no write",
+          stub("mmlog", '"$real" "$@" | cat 2>/dev/null\nexit ${PIPESTATUS[0]}'), "output full"),
+    Spoil("outside", "an mmsim that goes on without its log",
+          stub("mmsim", 'exec "$real" "$@" 2> >(cat >&2)'), "error (closed|full)"),
+    Spoil("memory", "a rule: no memory for `map`",
+          edited("tools/refused-memory", " open map grow", " open grow"), "asks for memory"),
+    Spoil("drawn", "an mmsim that answers 487 for 1455",
+          piped("mmsim", "run", "s/^error 1455$/error 487/"), "error 487, not error 1455"),
+    Spoil("drawn", "an mmlog that tells another line",
+          piped("mmlog", "check", "s/^no line .*1$/no line 1/"), "spoil"),
+    Spoil("drawn", "an mmlog that counts one soft fault more",
+          piped("mmlog", "check", "s/^soft \\(.*\\)$/soft 1\\1/"), "mmlog"),
+    Spoil("show", "an mmshow without the form sums",
+          stub("mmshow", '[ "$1" != sums ] || exit 2\nexec "$real" "$@"'), "sums"),
+    Spoil("show", "an mmshow that counts hard faults as soft",
+          piped("mmshow", "faults", "s/^\\(1  *all  *\\)[0-9]*/\\199/"), "faults"),
+    Spoil("show", "a reason",
+          edited("tests/rows/show/reasons.txt", "there are 2 file", "there are 3 file"), "by hand"),
+    Spoil("faces", "a proof that names a module", unfaced, "names a module"),
+    Spoil("prose", "a function in another crate",
+          lambda room: room.add("docs/MODEL.md", "\nSee `run_log` of `mm_vad`.\n"), "run_log"),
+    Spoil("prose", "a name that nothing declares",
+          lambda room: room.add("README.md", "\nThe call `take_all_pages` does it.\n"),
+          "take_all_pages"),
+    Spoil("prose", "a crate without a row",
+          edited("docs/ARCHITECTURE.md", "| `mm_vad` |", "| `mm_wad` |"), "mm_vad"),
+    Spoil("documents", "an answer in README.md", edited("README.md", "ok AA", "ok AB"), "README"),
+    Spoil("documents", "a block without tag or mark",
+          lambda room: room.add("docs/GUIDE.md", "\n```\nnothing of the kind\n```\n"), "mark it"),
+    Spoil("documents", "a number that is made again",
+          edited("docs/GUIDE.md", "`large` has 300", "`large` has 301"), "prints '300"),
+    Spoil("documents", "a link",
+          edited("docs/GUIDE.md", "(sort.svg)", "(sorted.svg)"), "leads nowhere"),
+    Spoil("documents", "a command that leaves a file",
+          edited("README.md", "2> moves.log > answers.out", "2> moves.log > answers.txt"), "leave"),
+    Spoil("tries", "a form of tools/try",
+          edited("tools/try", '    "probe": ', '    "prob": '), "forms"),
+    Spoil("all hostile", "a check that is missing",
+          lambda room: room.remove("checks/hostile.py"), "0 passed, 1 failed"),
+    Spoil("all words", "a check that says nothing",
+          silent, "does not say"),
+    Spoil("run", "an `rt ci` that fails", failing_rt, "55 passed, 1 failed"),
+]  # fmt: skip
+
+
+def tried(spoil: Spoil, programs: dict[str, str]) -> tuple[bool, str]:
+    """Whether the check refuses a spoil as expected, and the first line that it says."""
+    with tempfile.TemporaryDirectory(prefix="spoiled-") as folder:
+        room = Room(folder, programs, spoil.check in WHOLE)
+        spoil.how(room)
+        status, said = room.check(spoil.check)
+    found = re.search(rf"^.*{spoil.said}.*$", said, re.MULTILINE)
+    shown = (found[0] if found else said[-200:]).replace(folder, "..").replace("\n", " ")
+    return status == 1 and found is not None, shown[:110]
+
+
+def unspoiled(name: str, programs: dict[str, str]) -> str:
+    """What a check says of a copy that is not spoiled, where it does not pass; else nothing."""
+    if name in ("faces", "run") or name.startswith("all "):
+        return ""
+    with tempfile.TemporaryDirectory(prefix="spoiled-") as folder:
+        status, said = Room(folder, programs, name in WHOLE).check(name)
+    return "" if status == 0 else said[-200:]
+
+
+def main() -> int:
+    parser = argparse.ArgumentParser(description=(__doc__ or "").split("\n")[0])
+    parser.add_argument("--only", metavar="CHECK", help="the spoils of one check")
+    check = begin(__doc__, PROGRAMS, parser)
+    spoils = [it for it in SPOILS if check.words.only in (None, it.check)]
+    names = sorted({it.check for it in spoils})
+    with ThreadPoolExecutor(2) as pool:
+        wholes = {name: pool.submit(unspoiled, name, check.programs) for name in names}
+        results = [(it, pool.submit(tried, it, check.programs)) for it in spoils]
+        for name, whole in wholes.items():
+            check.same(f"{name} without a spoil", whole.result(), "")
+        print("| Check | Spoil | What it says |\n|---|---|---|")
+        for spoil, result in results:
+            is_refused, shown = result.result()
+            print(f"| {spoil.check} | {spoil.what} | {shown.replace('|', '/')} |", flush=True)
+            check.holds(f"{spoil.check}: {spoil.what}", is_refused, f"is not refused: {shown}")
+    return check.end()
+
+
+if __name__ == "__main__":
+    sys.exit(main())

@@ -1,0 +1,20 @@
+use Rattle.mm_pager.specs.{own_in, paged_state}
+use Rattle.mm_pager.proofs.{by_writes, tidied_store, tidied_kept, write_passes}
+use Rattle.mm_pager.proofs.calls.PagerPageStore.write_out.Goals as goal
+use Rattle.mm_move_rules.specs.{is_touch}
+use Rattle.std.proofs.Common.{ap}
+
+pub returns-clause-store : goal.returns-clause-store
+returns-clause-store g c =
+    let s = paged_state c.args.self.now in
+    let z = g.T.StateCalls.shown c.write_out.new.state in
+    tidied_store _ s z (own_in c.args.self.now) (by_writes c.args.n s z c.write_out.ensures.begun c.write_out.ensures.rest) (g.met.T.StateCalls.holds c.args.self.now.state) (g.met.T.StateCalls.holds c.write_out.new.state)
+
+pub returns-clause-passes : goal.returns-clause-passes
+returns-clause-passes g c = write_passes c.args.n (paged_state c.args.self.now) (g.T.StateCalls.shown c.write_out.new.state) (own_in c.args.self.now) (own_in c.args.self.now) c.write_out.ensures.begun c.write_out.ensures.rest
+
+pub invariant_of-self : goal.invariant_of-self
+invariant_of-self g c =
+    let s = paged_state c.args.self.now in
+    let z = g.T.StateCalls.shown c.write_out.new.state in
+    record { kept = tidied_kept _ s z (own_in c.args.self.now) (by_writes c.args.n s z c.write_out.ensures.begun c.write_out.ensures.rest) c.args.self.now.kept (ap is_touch c.requires.kind) }

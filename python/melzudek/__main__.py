@@ -1,0 +1,10 @@
+"""`python3 -m melzudek`."""
+
+from __future__ import annotations
+
+import sys
+
+from .command import main
+
+if __name__ == "__main__":
+    sys.exit(main())
