@@ -2,19 +2,8 @@
 // chosen here is told to it, and one that is chosen there is told here, by messages.
 const SETTLED = 300; // milliseconds after a page was drawn
 const LAID_OUT = 20; // milliseconds, so that the page has its width when it first draws
-// A page in a frame has no address of its own to keep its place in; one that takes no messages is
-// given a listener.
+// A page in a frame has no address of its own to keep its place in.
 const FRAMED = '<head><script>history.replaceState = () => undefined;<\/script>';
-const LISTENER = `<script>addEventListener('message', ({ data }) => {
-  const number = document.getElementById('number');
-  if (!number || data?.melzudek !== 'line') return;
-  number.value = data.line;
-  number.dispatchEvent(new Event('change', { bubbles: true }));
-});<\/script></body>`;
-function framed(html) {
-  const page = html.replace('<head>', () => FRAMED);
-  return page.includes('melzudek') ? page : page.replace('</body>', () => LISTENER);
-}
 
 function makeFrame(place, chosen) {
   let shown = '';
@@ -44,7 +33,7 @@ function makeFrame(place, chosen) {
       tell();
     };
     place.append(frame);
-    setTimeout(() => (frame.srcdoc = framed(html)), LAID_OUT);
+    setTimeout(() => (frame.srcdoc = html.replace('<head>', () => FRAMED)), LAID_OUT);
   }
   return {
     // A page is drawn once its place is seen and the typing rests.
