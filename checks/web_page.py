@@ -14,6 +14,7 @@ from web_browser import Page, Trouble, find_browser
 
 LONGEST_GAP = 200  # milliseconds in which the page's own thread may be busy at once
 LINES = 20_000
+LEAST, MOST = 0x10000, 0x7FFF0000  # the user addresses
 RUNS = "Number(document.documentElement.dataset.runs ?? 0)"
 SHOWN = "!!document.querySelector('iframe.shown')"
 
@@ -124,11 +125,12 @@ class Checks:
                 shown = [" ".join(["ok", *(f"0x{it[key]:08X}" for key in keys)]) for it in regions]
                 shown.append(f"ok {got['charge']} {got['limit']}")
                 self.same(f"{name}: address spaces behind line {line}", shown, answers)
-                ends = [
-                    sum(it["regions"][-1][key] for key in ("base", "size"))
-                    for it in got["processes"]
-                ]
-                self.same(f"{name}: each walk ends at the end", set(ends) - {0x7FFF0000}, set())
+                for it in got["processes"]:
+                    ends = [region["base"] + region["size"] for region in it["regions"]]
+                    bases = [region["base"] for region in it["regions"]]
+                    self.same(
+                        f"{name}: no gap in a walk", bases + ends[-1:], [LEAST, *ends[:-1], MOST]
+                    )
 
     def mistakes(self, page: Page) -> None:
         """A mistake stands at its line with its reason, and goes when it is mended."""
