@@ -12,7 +12,7 @@ from typing import Dict, List, Set
 
 HERE = os.path.dirname(os.path.abspath(__file__))
 TARGET = ["--target=wasm32-unknown-unknown", "-mbulk-memory", "--no-default-config"]
-COMPILE = [*TARGET, "-mnontrapping-fptoint", "-msign-ext", "-O3"]
+COMPILE = [*TARGET, "-mnontrapping-fptoint", "-msign-ext", "-O2", "-Xclang", "-fmerge-functions"]
 SHIM = [*TARGET, "-std=c11", "-O2", "-Wall", "-Wextra", "-Werror", "-ffreestanding", "-nostdlib"]
 LINK = ["--no-entry", "--gc-sections", "--strip-all", "-z", "stack-size=1048576", "--stack-first"]
 BUILTINS = "/usr/lib/llvm-*/lib/clang/*/lib/wasi/libclang_rt.builtins-wasm32.a"
