@@ -3,8 +3,8 @@
 
 Each form but `html` (the pages are compared by checks/page), on the log of each example, of 200
 generated scripts, and of 30 scripts that are drawn here, with failing devices, threads that wait
-and `age` lines, so that `tell` has names and reasons to add. Where there is a script, `tell` is
-compared without it, with it, and with its answers. Each log is then spoiled in one line, and all
+and `age` lines, so that `tell` has names and reasons to add. Where there is a script, `tell` and
+`events` are compared without it, with it, and with its answers. Each log is then spoiled in one line, and all
 forms are compared again, with the status and the reason why a move is not legal.
 
 tests/rows/show/ has logs by hand with the reason of their last move, and a script by hand with the
@@ -131,13 +131,16 @@ def forms_of(log: bytes, files: list[str], draw: random.Random) -> list[list[str
     key = draw.choice(sorted(set(re.findall(rb"[ps]\d+\.\d+", log))) or [b"p1.16"]).decode()
     line, other = (str(draw.randint(1, lines)) for _ in range(2))
     frame = str(draw.randrange(16))
-    forms = [["tell"], ["counts"], ["counts", line], ["state", other], ["frame", frame]]
+    forms = [["tell"], ["events"], ["counts"], ["counts", line], ["state", other], ["frame", frame]]
     forms += [["key", key], ["faults"], ["sums"]]
     if key.startswith("p"):
         pid, page = key[1:].split(".")
         address = int(page) * 4096 % 2**32 + draw.randrange(4096)
         forms.append(["key", f"{pid}:0x{address:X}"])
-    return forms + [["tell", *files[:count]] for count in range(1, len(files) + 1)]
+    with_files = [
+        (form, count) for form in ("tell", "events") for count in range(1, len(files) + 1)
+    ]
+    return forms + [[form, *files[:count]] for form, count in with_files]
 
 
 def differing(got: Ended, wanted: tuple[int, bytes]) -> Optional[str]:

@@ -3,6 +3,7 @@
 
     show.py tell [SCRIPT [ANSWERS]] < LOG           a transcript in words; --plain before `tell`: without what the script and the
                                                     answers add to the words, as the page's own text has it
+    show.py events [SCRIPT [ANSWERS]] < LOG         a row of csv for each move
     show.py counts [LINE] < LOG                     lists after each line; use counts after one line
     show.py state LINE < LOG                        every list, frame and working set after one line
     show.py frame N < LOG, show.py key KEY < LOG    the history of a frame, of a page, `p1.16`, `s0.2` or `1:0x10000`
@@ -18,6 +19,7 @@ from collections import Counter, OrderedDict
 
 import observations
 import remarks
+import rows
 from life import Life, read_move, spell_key, spell_move
 from refusals import refusal
 
@@ -336,6 +338,27 @@ def do_tell(out, data, names, is_plain):
     walk(data, seen, ended)
 
 
+def do_events(out, data, names):
+    script, answers = texts(names)
+    ages = remarks.Ages() if script is not None and answers is not None else None
+    out.append(','.join(rows.HEAD))
+
+    def ended(l):
+        if ages and l.line <= len(answers):
+            ages.after(script[l.line - 1], answers[l.line - 1])
+
+    def seen(l, m, code, d):
+        if m[0] == 'at':
+            fits(script, m)
+            return
+        if ages and m[0] == 'map':
+            ages.use(m[2])
+        why = remarks.why_chosen(code, m[1], ages.of(m[1]), d['above']) if ages and m[0] == 'unmap' else ''
+        out.append(rows.event(l, code, d, why))
+
+    walk(data, seen, ended)
+
+
 HEADS = ('zeroed', 'free', 'standby', 'modified', 'active', 'transition', 'slots', 'requests')
 
 
@@ -587,6 +610,8 @@ def form_of(argv):
         return lambda out, data: do_tell(out, data, words, is_plain)
     if is_plain:
         return None
+    if name == 'events' and len(words) <= 2:
+        return lambda out, data: do_events(out, data, words)
     if name == 'counts' and not words:
         return do_counts
     if name in ('counts', 'state') and line is not None:
@@ -602,8 +627,8 @@ def form_of(argv):
     return None
 
 
-USAGE = ('usage: mmshow html [SCRIPT [ANSWERS]] | tell [SCRIPT [ANSWERS]] | counts [LINE] | state LINE | frame N | key KEY'
-         ' | faults | sums\n')
+USAGE = ('usage: mmshow html [SCRIPT [ANSWERS]] | tell [SCRIPT [ANSWERS]] | events [SCRIPT [ANSWERS]] | counts [LINE] | state LINE'
+         ' | frame N | key KEY | faults | sums\n')
 
 
 def answer(argv, data):

@@ -1,6 +1,6 @@
 ghost use Rattle.std.specs.Prelude.{◌≡◌, ◌≢◌, [], false, None, IfOk, MatchOption, map};
 ghost use Rattle.std.specs.Prelude.{string_bytes};
-ghost use Rattle.std.specs.Bool.{OnFalse};
+ghost use Rattle.std.specs.Bool.{OnFalse, OnTrue};
 ghost use Rattle.std.specs.List.{list_any};
 ghost use Rattle.clap.specs.Words.{app_of, fault_of, kind_of, subcommand_of, subcommand_rows_of};
 ghost use Rattle.clap.specs.declared.error.ErrorKind.TheVariants.{OutOfMemory};
@@ -102,7 +102,8 @@ fn command<'a>(alloc: Global, forms: &[Form<'a>]) -> Result<Command<'a>, AllocEr
 
 /// Whether clap gave up for memory that was refused.
 fn is_for_memory(error: Error) -> bool
-    ensures { OnFalse result (kind_of error ≡ OutOfMemory → ⊥) }
+    ensures yes { OnTrue result (kind_of error ≡ OutOfMemory) }
+    ensures no { OnFalse result (kind_of error ≡ OutOfMemory → ⊥) }
 {
     matches!(error.kind(), ErrorKind::OutOfMemory)
 }

@@ -20,6 +20,6 @@ unfoldable pub use Scripts.{script_of}
 pub use Stages.{Ends, ScriptOf, SpellsScript, is_whole, unread, with_event, with_line, with_lines}
 pub use Stages.{with_meaning}
 pub use Runs.{CameTo, IsManyBytes, IsManyLines, IsRefusedFile, IsTorn, IsWritten, WasRead}
-pub use Runs.{most_bytes, most_lines, names_status}
+pub use Runs.{most_bytes, most_lines, names_status, spelled_script}
 pub use declared.endings.Ending.{Ending}
 pub use declared.names.NameKey.{NameKey}

@@ -54,9 +54,19 @@ pub record IsManyBytes (left left' : Option Text) : Type 0 where
   pub took : Took left left' text
   pub many : most_bytes < length text
 
--- a front of something was written, or nothing
-abbrev pub IsTorn : Option Text → Option Text → Type 0
-IsTorn took took' = (front : Text) × Appended took took' front
+-- what a script spells; nothing where a file means none
+abbrev pub spelled_script : Option (List Event) → Text
+spelled_script None = []
+spelled_script (Some events) = spelled events
+
+-- A front of the script that the file means was written, or nothing.
+pub record IsTorn (left left' took took' : Option Text) : Type 0 where
+  pub text : Text
+  pub was_read : WasRead left left' text
+  pub front : Text
+  pub behind : Text
+  pub whole : front ++ behind ≡ spelled_script (script_of text)
+  pub written : Appended took took' front
 
 -- what each ending says
 abbrev pub CameTo : Ending → (left left' took took' : Option Text) → Type 0
@@ -66,7 +76,7 @@ CameTo ending.TooLong left left' took took' =
     (IsManyBytes left left' ⊎ IsManyLines left left') × (took' ≡ took)
 CameTo ending.NoMemory left left' took took' = took' ≡ took
 CameTo ending.ReadFault left left' took took' = took' ≡ took
-CameTo ending.OutFault left left' took took' = IsTorn took took'
+CameTo ending.OutFault left left' took took' = IsTorn left left' took took'
 CameTo ending.Usage left left' took took' = (left' ≡ left) × (took' ≡ took)
 
 abbrev pub names_status : Ending → ℕ

@@ -1,15 +1,15 @@
 -- How a run ends whose file was read.
-use Rattle.std.proofs.Common.{◌≡◌, ◌⊎◌, inl, inr, ℕ, ◌≤◌, ◌<◌, true, false, List, [], Option, Some, None, sym, refl, subst, ◌∙◌}
+use Rattle.std.proofs.Common.{◌≡◌, ◌⊎◌, inl, inr, ℕ, ◌≤◌, ◌<◌, true, false, List, [], Option, Some, None, sym, refl, ap, subst, ◌∙◌}
 use Rattle.mm_types.specs.{Text, Appended, Rose, Event}
 use Rattle.mm_types.proofs.{appended_none}
 use Rattle.mm_io.specs.{Wrote}
 use Rattle.mm_names.specs.{Ending, script_of, ScriptOf, is_whole, Ends, most_lines, WasRead, IsWritten, IsRefusedFile, IsManyBytes, IsManyLines}
-use Rattle.mm_names.specs.{IsTorn, CameTo, names_status}
+use Rattle.mm_names.specs.{IsTorn, CameTo, names_status, spelled_script}
 use Rattle.mm_names.specs.declared.endings.Ending.TheVariants as ending
 use Rattle.mm_names.proofs.{opens}
 use Rattle.mm_reasons.specs.{Form, Talked, NamesRan, RanTalk, RanAs}
 use Rattle.mm_reasons.specs.declared.forms.Form.TheVariants as form
-use Rattle.mm_reasons.proofs.Sayings.{said_none}
+use Rattle.mm_reasons.proofs.Sayings.{talked_none}
 
 -- a script is not both whole and not
 pub never_both : {A : Type 0} (s : ScriptOf) → is_whole s ≡ true → is_whole s ≡ false → A
@@ -65,29 +65,51 @@ pub many : (left left' a : Option Text) (text : Text) (s : ScriptOf) → WasRead
     → (IsManyBytes left left' ⊎ IsManyLines left left') × (a ≡ a)
 many left left' a text s read ends h more = many_as left left' a text s (script_of text) refl read ends h more
 
-pub torn : (a b : Option Text) (text : Text) → Wrote a b text true → IsTorn a b
-torn a b text w = (w.front, w.written)
+torn_as : (left left' a b : Option Text) (text : Text) (s : ScriptOf) (o : Option (List Event)) → script_of text ≡ o
+    → WasRead left left' text → Ends o s → is_whole s ≡ true → Wrote a b s.text true → IsTorn left left' a b
+torn_as left left' a b text s None is read ends h w = never_both s h ends
+torn_as left left' a b text s (Some es) is read ends h w = record {
+  text = text;
+  was_read = read;
+  front = w.front;
+  behind = w.rest;
+  whole = sym w.whole ∙ ends.1.text ∙ ap spelled_script (sym is);
+  written = w.written;
+}
 
-pub torn_none : (a : Option Text) → IsTorn a a
-torn_none a = ([], appended_none a)
+pub torn : (left left' a b : Option Text) (text : Text) (s : ScriptOf) → WasRead left left' text
+    → Ends (script_of text) s → is_whole s ≡ true → Wrote a b s.text true → IsTorn left left' a b
+torn left left' a b text s read ends h w = torn_as left left' a b text s (script_of text) refl read ends h w
 
-pub told : (r e : Ending) (left left' a : Option Text) (x y : ℕ) → (r ≡ e) ⊎ ((r ≡ ending.OutFault) × Rose x y)
-    → CameTo e left left' a a → CameTo r left left' a a
-told r e left left' a x y (inl h) came = subst (λ (z : Ending). CameTo z left left' a a) (sym h) came
-told r e left left' a x y (inr h) came = subst (λ (z : Ending). CameTo z left left' a a) (sym h.0) (torn_none a)
+pub torn_none : (left left' a : Option Text) (text : Text) → WasRead left left' text → IsTorn left left' a a
+torn_none left left' a text read = record {
+  text = text;
+  was_read = read;
+  front = [];
+  behind = spelled_script (script_of text);
+  whole = refl;
+  written = appended_none a;
+}
+
+pub told : (r e : Ending) (left left' a : Option Text) (x y : ℕ) (text : Text) → WasRead left left' text
+    → (r ≡ e) ⊎ ((r ≡ ending.OutFault) × Rose x y) → CameTo e left left' a a → CameTo r left left' a a
+told r e left left' a x y text read (inl h) came = subst (λ (z : Ending). CameTo z left left' a a) (sym h) came
+told r e left left' a x y text read (inr h) came =
+    subst (λ (z : Ending). CameTo z left left' a a) (sym h.0) (torn_none left left' a text read)
 
 pub ran : (e : Ending) (left left' a b : Option Text) (status : ℕ) → status ≡ names_status e → CameTo e left left' a b
     → NamesRan left left' a b status
 ran e left left' a b status is came = record { ending = e; status_is = is; came = came }
 
-pub ran_talk : (e : Ending) (a b : Option Text) (status : ℕ) → status ≡ names_status e → Talked e a b → RanTalk a b status
-ran_talk e a b status is talked = record { ending = e; status_is = is; talked = talked }
+pub ran_talk : (e : Ending) (left left' a b : Option Text) (status : ℕ) → status ≡ names_status e → Talked e left left' a b
+    → RanTalk left left' a b status
+ran_talk e left left' a b status is talked = record { ending = e; status_is = is; talked = talked }
 
 -- memory was refused before anything was read or written
 pub out_of_memory : (o : Option Form) (left took : Option Text) → RanAs o left left took took 1
 out_of_memory None left took = (refl, refl, inr refl)
 out_of_memory (Some form.Script) left took = record { ending = ending.NoMemory; status_is = refl; came = refl }
 out_of_memory (Some form.Lines) left took = record { ending = ending.NoMemory; status_is = refl; came = refl }
-out_of_memory (Some form.Talk) left took = record { ending = ending.NoMemory; status_is = refl; talked = said_none took }
+out_of_memory (Some form.Talk) left took = record { ending = ending.NoMemory; status_is = refl; talked = talked_none left took }
 
 pub ruleset endings = (written, refused, many, torn, torn_none, told, ran, ran_talk)

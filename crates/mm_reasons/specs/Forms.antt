@@ -1,12 +1,11 @@
 -- The forms of the program's words, and what each does.
 -- docs/WRITTEN.md
 use Rattle.std.specs.Prelude.{◌≡◌, ◌⊎◌, ℕ, List, [], ◌∷◌, bytes_eq, if◌then◌else◌, Option, Some, None, codes}
-use Rattle.std.specs.List.{AllByRecursion}
-use Rattle.mm_types.specs.{Text, Appended, Rose, Event}
-use Rattle.mm_script.specs.{IsWellFormed}
+use Rattle.mm_types.specs.{Text, Rose}
 use Rattle.mm_io.specs.declared.Sink.{Ghosts as SinkGhosts}
-use Rattle.mm_names.specs.{Ending, spelled, CameTo, IsTorn, names_status}
+use Rattle.mm_names.specs.{Ending, CameTo, names_status}
 use Rattle.mm_names.specs.declared.endings.Ending.TheVariants as ending
+use Rattle.mm_reasons.specs.Talks.{Talked}
 use Rattle.mm_reasons.specs.declared.forms.Form.{Form}
 use Rattle.mm_reasons.specs.declared.forms.Form.TheVariants as form
 
@@ -21,17 +20,6 @@ abbrev pub form_of : List Text → Option Form
 form_of [] = Some form.Script
 form_of (word ∷ []) = form_named word
 form_of (word ∷ other ∷ words) = None
-
--- Lines of events were written, each of which is in the grammar.
-pub record Said (took took' : Option Text) : Type 0 where
-  pub events : List Event
-  pub formed : AllByRecursion IsWellFormed events
-  pub written : Appended took took' (spelled events)
-
--- what a talk says, however it ends
-abbrev pub Talked : Ending → (took took' : Option Text) → Type 0
-Talked ending.OutFault took took' = IsTorn took took'
-Talked _ took took' = Said took took'
 
 -- A write is blamed where the count of faults of one of two sinks rose; no read is.
 abbrev pub WriteBlamed : Ending → (out out' err err' : ℕ) → Type 0
@@ -51,10 +39,10 @@ pub record NamesRan (left left' took took' : Option Text) (status : ℕ) : Type 
   pub status_is : status ≡ names_status ending
   pub came : CameTo ending left left' took took'
 
-pub record RanTalk (took took' : Option Text) (status : ℕ) : Type 0 where
+pub record RanTalk (left left' took took' : Option Text) (status : ℕ) : Type 0 where
   pub ending : Ending
   pub status_is : status ≡ names_status ending
-  pub talked : Talked ending took took'
+  pub talked : Talked ending left left' took took'
 
 -- words that are no form are told of, or memory was refused; nothing is read or written
 abbrev pub IsNoForm : (left left' took took' : Option Text) → ℕ → Type 0
@@ -64,7 +52,7 @@ IsNoForm left left' took took' status =
 -- what a run in this form does
 abbrev pub RanAs : Option Form → (left left' took took' : Option Text) → ℕ → Type 0
 RanAs None left left' took took' status = IsNoForm left left' took took' status
-RanAs (Some form.Talk) left left' took took' status = RanTalk took took' status
+RanAs (Some form.Talk) left left' took took' status = RanTalk left left' took took' status
 RanAs (Some _) left left' took took' status = NamesRan left left' took took' status
 
 -- ---- sinks that did not fail

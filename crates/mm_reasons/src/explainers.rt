@@ -1,3 +1,8 @@
+ghost use Rattle.std.specs.Prelude.{◌≡◌, ◌==◌, [], false, true, OnOk};
+ghost use Rattle.mm_reasons.specs.Talks.{hearing_after};
+ghost use Rattle.mm_names.specs.{no_names};
+ghost use Rattle.mm_names.specs.declared.meanings.Meaning.TheVariants as meaning;
+
 use crate::reasons::{is_near_machine, put_reason};
 use crate::texts::Piece::{Number, Text};
 use crate::texts::{put, put_form};
@@ -5,6 +10,7 @@ use crate::warnings::{put_line_warning, put_warning};
 use mm_names::{Meaning, Names, may_stand, meant, without_mark};
 use mm_types::{AccessSpec, Event, Name, NoMemory};
 use std::alloc::Global;
+use std::marker::Model;
 
 /// The most faults that are told of a file, and the most warnings.
 const MOST_TOLD: u32 = 20;
@@ -24,9 +30,30 @@ pub(crate) struct Explainer {
     out: Vec<u8>,
 }
 
+impl Model for Explainer {
+    ghost use Rattle.std.specs.Prelude.{◌==◌};
+    ghost use Rattle.mm_reasons.specs.Talks.{HearingOf};
+
+    ghost Value = { HearingOf };
+
+    ghost view = { λ s. record {
+      names = s.names;
+      begun = s.begun;
+      fresh = s.number == 0;
+      leaves_out = s.leaves_out;
+    } };
+}
+
 impl Explainer {
     /// Nothing was read.
-    pub(crate) fn new(alloc: Global, leaves_out: bool) -> Explainer {
+    pub(crate) fn new(alloc: Global, leaves_out: bool) -> Explainer
+        ensures { result ≡ record {
+          names = no_names;
+          begun = false;
+          fresh = true;
+          leaves_out = leaves_out;
+        } }
+    {
         Explainer {
             names: Names::new(alloc),
             begun: false,
@@ -44,29 +71,46 @@ impl Explainer {
     }
 
     /// What was told was written.
-    pub(crate) fn clear(&mut self) {
+    pub(crate) fn clear(&mut self)
+        ensures { self.new ≡ self.old }
+    {
         self.out.clear();
         self.faults = 0;
         self.warnings = 0;
     }
 
     /// Whether an event came.
-    pub(crate) fn begun(&self) -> bool {
+    pub(crate) fn begun(&self) -> bool
+        ensures { result ≡ self.now.begun }
+    {
         self.begun
     }
 
     /// Whether no line was read.
-    pub(crate) fn is_new(&self) -> bool {
+    pub(crate) fn is_new(&self) -> bool
+        ensures { result ≡ self.now.fresh }
+    {
         self.number == 0
     }
 
     /// The names that the lines gave.
-    pub(crate) fn names(&self) -> &Names {
+    pub(crate) fn names(&self) -> &Names
+        ensures { result.now ≡ self.now.names }
+    {
         &self.names
     }
 
+    /// A line was read.
+    fn count(&mut self)
+        ensures { self.new ≡ record self.old { fresh = false } }
+    {
+        self.number = self.number.saturating_add(1);
+    }
+
     /// A fault of this reason, unless enough were told.
-    fn fault(&mut self, reason: &[u8]) -> Result<(), NoMemory> {
+    fn fault(&mut self, reason: &[u8]) -> Result<(), NoMemory>
+        ensures { self.new ≡ self.old }
+    {
         if self.faults >= MOST_TOLD {
             return Ok(());
         }
@@ -76,7 +120,9 @@ impl Explainer {
     }
 
     /// A warning of what an event or its line says, unless enough were told.
-    fn warn(&mut self, alloc: Global, event: &Event, line: &[u8]) -> Result<(), NoMemory> {
+    fn warn(&mut self, alloc: Global, event: &Event, line: &[u8]) -> Result<(), NoMemory>
+        ensures { self.new ≡ self.old }
+    {
         let mut warning: Vec<u8> = Vec::new(alloc);
         put_warning(&mut warning, event)?;
         if warning.is_empty() {
@@ -92,7 +138,10 @@ impl Explainer {
     }
 
     /// A line that means an event.
-    fn say(&mut self, alloc: Global, event: &Event, line: &[u8]) -> Result<(), NoMemory> {
+    fn say(&mut self, alloc: Global, event: &Event, line: &[u8]) -> Result<(), NoMemory>
+        ensures { OnOk result (self.old.leaves_out ≡ true → self.old.fresh ≡ false →
+            self.new ≡ hearing_after self.old (meaning.Says event.now)) }
+    {
         if may_stand(self.begun, event) {
             self.begun = true;
             return self.warn(alloc, event, line);
@@ -105,7 +154,9 @@ impl Explainer {
     }
 
     /// A line that means nothing. One that was to be the `machine` makes no second message.
-    fn refuse(&mut self, alloc: Global, line: &[u8]) -> Result<(), NoMemory> {
+    fn refuse(&mut self, alloc: Global, line: &[u8]) -> Result<(), NoMemory>
+        ensures { self.old.leaves_out ≡ true → self.new ≡ self.old }
+    {
         if !self.begun && !self.leaves_out {
             self.begun = is_near_machine(alloc, line)?;
         }
@@ -115,7 +166,10 @@ impl Explainer {
     }
 
     /// A line of this meaning.
-    fn take(&mut self, alloc: Global, meaning: &Meaning, line: &[u8]) -> Result<(), NoMemory> {
+    fn take(&mut self, alloc: Global, meaning: &Meaning, line: &[u8]) -> Result<(), NoMemory>
+        ensures { OnOk result (self.old.leaves_out ≡ true → self.old.fresh ≡ false →
+            self.new ≡ hearing_after self.old meaning.now) }
+    {
         match meaning {
             Meaning::Nothing => Ok(()),
             Meaning::Gives(given) => self.names.give(given),
@@ -130,8 +184,11 @@ impl Explainer {
         alloc: Global,
         meaning: &Meaning,
         line: &[u8],
-    ) -> Result<(), NoMemory> {
-        self.number = self.number.saturating_add(1);
+    ) -> Result<(), NoMemory>
+        ensures { OnOk result (self.old.leaves_out ≡ true →
+            self.new ≡ hearing_after self.old meaning.now) }
+    {
+        self.count();
         self.take(alloc, meaning, line)
     }
 

@@ -1,7 +1,10 @@
-ghost use Rattle.std.specs.Prelude.{◌≡◌, ◌≢◌, ◌≤◌, ℕ, ◌∷◌, ◌++◌, [], IfOk, IfErr, Err, MatchResult};
+ghost use Rattle.std.specs.Prelude.{◌≡◌, ◌≢◌, ◌≤◌, ℕ, ◌∷◌, ◌++◌, [], true, List, Option, IfOk, IfErr, OnOk, Err, MatchResult};
+ghost use Rattle.mm_types.specs.{Event, Text};
 ghost use Rattle.mm_script.specs.{printed, IsWellFormed};
-ghost use Rattle.mm_names.specs.{FormedIn};
-ghost use Rattle.mm_reasons.specs.{GoesWell, sink_seen, Said, Talked, WriteBlamed, Blamed};
+ghost use Rattle.mm_names.specs.{FormedIn, meant, placed_line};
+ghost use Rattle.mm_reasons.specs.{GoesWell, sink_seen, Talked, WriteBlamed, Blamed};
+ghost use Rattle.mm_reasons.specs.{Halts, HaltsLine, Hears, KeepsByte, ListensOut, SaidAll, Stops};
+ghost use Rattle.mm_reasons.specs.{hearing_after, said_by_line, said_of, whole_line};
 
 use crate::explainers::Explainer;
 use crate::top::write_flushed;
@@ -12,8 +15,9 @@ use mm_text::LineBuf;
 use mm_types::{AccessSpec, Event, Failed, Name, NoMemory};
 use std::alloc::Global;
 
-/// The most bytes of a line that are kept: a longer one means nothing.
-const MOST_KEPT: usize = 65_537;
+/// The most bytes of a line that are kept: of 65,536 the line, a byte more, which means nothing, and
+/// the mark that may stand in front of the first.
+const MOST_KEPT: usize = 65_540;
 
 /// The line of an event, with its line feed.
 fn line_of(alloc: Global, event: &Event) -> Result<Vec<u8>, NoMemory>
@@ -30,8 +34,9 @@ fn line_of(alloc: Global, event: &Event) -> Result<Vec<u8>, NoMemory>
 #[tactic(auto, using(crate::proofs::Sayings::sayings, crate::proofs::Blames::blames, crate::proofs::Wells::wells))]
 fn say<O: Sink>(alloc: Global, event: &Event, out: &mut O) -> Result<(), Ending>
     requires { IsWellFormed event.now }
-    ensures said { MatchResult result (λ _. Said (O.taken out.old) (O.taken out.new))
-        (λ e. Talked e (O.taken out.old) (O.taken out.new)) }
+    ensures said { MatchResult result
+        (λ _. SaidAll (O.taken out.old) (O.taken out.new) (event.now ∷ []))
+        (λ e. HaltsLine e (O.taken out.old) (O.taken out.new) (event.now ∷ [])) }
     ensures later { O.faults out.old ≤ O.faults out.new }
     ensures blame { IfErr result (λ e. (n : ℕ)
         → WriteBlamed e (O.faults out.old) (O.faults out.new) n n) }
@@ -58,8 +63,9 @@ fn say_meaning<O: Sink>(
     out: &mut O,
 ) -> Result<(), Ending>
     requires { FormedIn meaning.now }
-    ensures said { MatchResult result (λ _. Said (O.taken out.old) (O.taken out.new))
-        (λ e. Talked e (O.taken out.old) (O.taken out.new)) }
+    ensures said { MatchResult result
+        (λ _. SaidAll (O.taken out.old) (O.taken out.new) (said_of (placed_line begun meaning.now)))
+        (λ e. HaltsLine e (O.taken out.old) (O.taken out.new) (said_of (placed_line begun meaning.now))) }
     ensures later { O.faults out.old ≤ O.faults out.new }
     ensures blame { IfErr result (λ e. (n : ℕ)
         → WriteBlamed e (O.faults out.old) (O.faults out.new) n n) }
@@ -68,18 +74,20 @@ fn say_meaning<O: Sink>(
         GoesWell (sink_seen O.Sink out.old) (sink_seen O.Sink out.new) }
 {
     match meaning {
+        Meaning::Nothing => Ok(()),
+        Meaning::Gives(_) => Ok(()),
         Meaning::Says(event) => {
             if may_stand(begun, event) {
                 return say(alloc, event, out);
             }
             Ok(())
         }
-        _ => Ok(()),
+        Meaning::Wrong => Ok(()),
     }
 }
 
 /// Tells what is wrong with a line, or may be.
-#[tactic(auto, using(crate::proofs::Blames::blames, crate::proofs::Wells::wells))]
+#[tactic(auto, using(crate::proofs::Sayings::sayings, crate::proofs::Blames::blames, crate::proofs::Wells::wells))]
 fn explain<E: Sink>(
     alloc: Global,
     explainer: &mut Explainer,
@@ -87,6 +95,10 @@ fn explain<E: Sink>(
     line: &[u8],
     err: &mut E,
 ) -> Result<(), Ending>
+    requires { explainer.old.leaves_out ≡ true }
+    ensures heard { OnOk result (explainer.new ≡ hearing_after explainer.old meaning.now) }
+    ensures halts { IfErr result (λ e. (a b : Option Text)
+        (all : List Event) → SaidAll a b all → HaltsLine e a b all) }
     ensures err_later { E.faults err.old ≤ E.faults err.new }
     ensures blame { IfErr result (λ e. (n : ℕ)
         → WriteBlamed e n n (E.faults err.old) (E.faults err.new)) }
@@ -94,11 +106,13 @@ fn explain<E: Sink>(
     ensures err_well { result ≢ Err Ending.OutFault →
         GoesWell (sink_seen E.Sink err.old) (sink_seen E.Sink err.new) }
 {
-    if explainer.explain(alloc, meaning, line).is_err() {
-        return Err(Ending::NoMemory);
+    match explainer.explain(alloc, meaning, line) {
+        Ok(()) => {}
+        Err(NoMemory) => return Err(Ending::NoMemory),
     }
-    if write_flushed(err, explainer.text()).is_err() {
-        return Err(Ending::OutFault);
+    match write_flushed(err, explainer.text()) {
+        Ok(()) => {}
+        Err(Failed) => return Err(Ending::OutFault),
     }
     explainer.clear();
     Ok(())
@@ -113,8 +127,12 @@ fn take_line<O: Sink, E: Sink>(
     out: &mut O,
     err: &mut E,
 ) -> Result<(), Ending>
-    ensures said { MatchResult result (λ _. Said (O.taken out.old) (O.taken out.new))
-        (λ e. Talked e (O.taken out.old) (O.taken out.new)) }
+    requires { explainer.old.leaves_out ≡ true }
+    ensures said { MatchResult result
+        (λ _. SaidAll (O.taken out.old) (O.taken out.new) (said_by_line explainer.old line.now))
+        (λ e. HaltsLine e (O.taken out.old) (O.taken out.new) (said_by_line explainer.old line.now)) }
+    ensures heard { OnOk result
+        (explainer.new ≡ hearing_after explainer.old (meant explainer.old.names line.now)) }
     ensures later { O.faults out.old ≤ O.faults out.new }
     ensures err_later { E.faults err.old ≤ E.faults err.new }
     ensures blame { IfErr result (λ e. WriteBlamed e (O.faults out.old) (O.faults out.new)
@@ -134,17 +152,32 @@ fn take_line<O: Sink, E: Sink>(
         Ok(meaning) => meaning,
         Err(NoMemory) => return Err(Ending::NoMemory),
     };
-    say_meaning(alloc, &meaning, begun, out)?;
-    explain(alloc, explainer, &meaning, line, err)
+    match say_meaning(alloc, &meaning, begun, out) {
+        Ok(()) => explain(alloc, explainer, &meaning, line, err),
+        Err(ending) => Err(ending),
+    }
 }
 
 /// The line that has begun, without the mark that may stand in front of the first.
-fn whole_line<'a>(explainer: &Explainer, line: &'a [u8]) -> &'a [u8] {
+fn whole_line<'a>(explainer: &Explainer, line: &'a [u8]) -> &'a [u8]
+    ensures { result.now ≡ whole_line explainer.now line.now }
+{
     if explainer.is_new() {
         without_mark(line)
     } else {
         line
     }
+}
+
+/// Keeps a byte of the line that has begun, unless enough of it are kept.
+fn keep_byte(line: &mut Vec<u8>, byte: u8) -> Result<(), NoMemory>
+    ensures { OnOk result (KeepsByte line.old.items line.new.items byte) }
+{
+    if line.len() >= MOST_KEPT {
+        return Ok(());
+    }
+    line.push(byte)?;
+    Ok(())
 }
 
 /// Takes a byte: of the line that has begun, or its end.
@@ -157,8 +190,11 @@ fn take_byte<O: Sink, E: Sink>(
     out: &mut O,
     err: &mut E,
 ) -> Result<(), Ending>
-    ensures said { MatchResult result (λ _. Said (O.taken out.old) (O.taken out.new))
-        (λ e. Talked e (O.taken out.old) (O.taken out.new)) }
+    requires { explainer.old.leaves_out ≡ true }
+    ensures said { MatchResult result
+        (λ _. Hears explainer.old line.old.items explainer.new line.new.items (byte ∷ [])
+        (O.taken out.old) (O.taken out.new))
+        (λ e. Halts e explainer.old line.old.items (byte ∷ []) (O.taken out.old) (O.taken out.new)) }
     ensures later { O.faults out.old ≤ O.faults out.new }
     ensures err_later { E.faults err.old ≤ E.faults err.new }
     ensures blame { IfErr result (λ e. WriteBlamed e (O.faults out.old) (O.faults out.new)
@@ -171,14 +207,17 @@ fn take_byte<O: Sink, E: Sink>(
 {
     if byte == b'\n' {
         let whole = whole_line(explainer, line.as_slice());
-        take_line(alloc, explainer, whole, out, err)?;
+        match take_line(alloc, explainer, whole, out, err) {
+            Ok(()) => {}
+            Err(ending) => return Err(ending),
+        }
         line.clear();
         return Ok(());
     }
-    if line.len() < MOST_KEPT && line.push(byte).is_err() {
-        return Err(Ending::NoMemory);
+    match keep_byte(line, byte) {
+        Ok(()) => Ok(()),
+        Err(NoMemory) => Err(Ending::NoMemory),
     }
-    Ok(())
 }
 
 /// Takes some bytes.
@@ -191,8 +230,11 @@ fn take_bytes<O: Sink, E: Sink>(
     out: &mut O,
     err: &mut E,
 ) -> Result<(), Ending>
-    ensures said { MatchResult result (λ _. Said (O.taken out.old) (O.taken out.new))
-        (λ e. Talked e (O.taken out.old) (O.taken out.new)) }
+    requires { explainer.old.leaves_out ≡ true }
+    ensures said { MatchResult result
+        (λ _. Hears explainer.old line.old.items explainer.new line.new.items bytes.now
+        (O.taken out.old) (O.taken out.new))
+        (λ e. Halts e explainer.old line.old.items bytes.now (O.taken out.old) (O.taken out.new)) }
     ensures later { O.faults out.old ≤ O.faults out.new }
     ensures err_later { E.faults err.old ≤ E.faults err.new }
     ensures blame { IfErr result (λ e. WriteBlamed e (O.faults out.old) (O.faults out.new)
@@ -222,8 +264,12 @@ fn listen<S: Source, O: Sink, E: Sink>(
     out: &mut O,
     err: &mut E,
 ) -> Result<(), Ending>
-    ensures said { MatchResult result (λ _. Said (O.taken out.old) (O.taken out.new))
-        (λ e. Talked e (O.taken out.old) (O.taken out.new)) }
+    requires { explainer.old.leaves_out ≡ true }
+    ensures said { MatchResult result
+        (λ _. ListensOut (S.left source.old) (S.left source.new) explainer.old line.old.items
+        explainer.new line.new.items (O.taken out.old) (O.taken out.new))
+        (λ e. Stops e (S.left source.old) (S.left source.new) explainer.old line.old.items
+        (O.taken out.old) (O.taken out.new)) }
     ensures later { O.faults out.old ≤ O.faults out.new }
     ensures err_later { E.faults err.old ≤ E.faults err.new }
     ensures blame { IfErr result (λ e. Blamed e (S.faults source.old) (S.faults source.new)
@@ -261,8 +307,11 @@ fn hear<S: Source, O: Sink, E: Sink>(
     out: &mut O,
     err: &mut E,
 ) -> Result<(), Ending>
-    ensures said { MatchResult result (λ _. Said (O.taken out.old) (O.taken out.new))
-        (λ e. Talked e (O.taken out.old) (O.taken out.new)) }
+    ensures said { MatchResult result
+        (λ _. Talked Ending.Written (S.left source.old) (S.left source.new)
+        (O.taken out.old) (O.taken out.new))
+        (λ e. Talked e (S.left source.old) (S.left source.new)
+        (O.taken out.old) (O.taken out.new)) }
     ensures blame { IfErr result (λ e. Blamed e (S.faults source.old) (S.faults source.new)
         (O.faults out.old) (O.faults out.new) (E.faults err.old) (E.faults err.new)) }
     ensures source_same { result ≢ Err Ending.ReadFault → result ≢ Err Ending.OutFault →
@@ -275,8 +324,10 @@ fn hear<S: Source, O: Sink, E: Sink>(
 {
     let mut explainer = Explainer::new(alloc, true);
     let mut line: Vec<u8> = Vec::new(alloc);
-    listen(alloc, &mut explainer, &mut line, source, out, err)?;
-    take_byte(alloc, &mut explainer, &mut line, b'\n', out, err)
+    match listen(alloc, &mut explainer, &mut line, source, out, err) {
+        Ok(()) => take_byte(alloc, &mut explainer, &mut line, b'\n', out, err),
+        Err(ending) => Err(ending),
+    }
 }
 
 /// Takes each line as it comes: its event's line is written at once, what is wrong with it is told.
@@ -287,7 +338,8 @@ pub(crate) fn talk<S: Source, O: Sink, E: Sink>(
     out: &mut O,
     err: &mut E,
 ) -> Ending
-    ensures talked { Talked result (O.taken out.old) (O.taken out.new) }
+    ensures talked { Talked result (S.left source.old) (S.left source.new)
+        (O.taken out.old) (O.taken out.new) }
     ensures blame { Blamed result (S.faults source.old) (S.faults source.new)
         (O.faults out.old) (O.faults out.new) (E.faults err.old) (E.faults err.new) }
     ensures source_same { result ≢ Ending.ReadFault → result ≢ Ending.OutFault →

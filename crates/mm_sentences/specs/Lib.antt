@@ -9,7 +9,7 @@ pub mod Refusals
 pub use Words.{address_text, addressed, key_text, kind_text, place_text}
 pub use States.{frame_row, frame_row_text, state_by, state_of, state_text}
 pub use Facts.{facts_of}
-pub use Sentences.{sentence_text}
+pub use Sentences.{home_text, sentence_text}
 pub use Pieces.{piece_text}
 pub use Parts.{first_failing, holds, is_clean, parts_of, refusal}
 pub use Tested.{all_hold, are_tested, is_tested, none_free}

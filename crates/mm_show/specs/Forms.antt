@@ -95,6 +95,7 @@ form_in name values =
     let count : ℕ = length values in
     if bytes_eq name (codes "html") then option_map form.Html (files_beside count)
     else if bytes_eq name (codes "tell") then option_map form.Tell (files_beside count)
+    else if bytes_eq name (codes "events") then option_map form.Events (files_beside count)
     else if bytes_eq name (codes "counts") then counts_with (line_asked_for first) count
     else if bytes_eq name (codes "state") then with_one form.StateAt (line_asked_for first) count
     else if bytes_eq name (codes "frame") then with_one form.FrameAt (number_of first) count
@@ -116,6 +117,7 @@ form_of words = if list_any is_dashed words then None else form_among words
 abbrev pub files_of : Form → Files
 files_of (form.Html named) = named
 files_of (form.Tell named) = named
+files_of (form.Events named) = named
 files_of _ = files.None
 
 -- the first and the second of the files are named

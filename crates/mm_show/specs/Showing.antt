@@ -7,10 +7,10 @@ use Rattle.mm_move_classes.specs.{log_data}
 use Rattle.mm_log_check.specs.{Shows, IsRefusedLog}
 use Rattle.mm_log_walk.specs.{lines_of, total_of, shown_file, answer_file, Said, Why, no_why}
 use Rattle.mm_sentences.specs.{why_text}
-use Rattle.mm_uses.specs.{counts_rows, use_rows, state_rows}
-use Rattle.mm_faults.specs.{fault_rows}
-use Rattle.mm_histories.specs.{frame_history, key_history}
+use Rattle.mm_reports.specs.{counts_rows, fault_rows, frame_history, key_history, state_rows}
+use Rattle.mm_reports.specs.{use_rows}
 use Rattle.mm_transcripts.specs.{transcript}
+use Rattle.mm_events.specs.{events}
 use Rattle.mm_show.specs.Words.{class_rows}
 use Rattle.mm_show.specs.Sums.{sums_text}
 use Rattle.mm_show.specs.declared.forms.Form.{Form}
@@ -49,6 +49,7 @@ sums_said false moves = []
 abbrev pub form_said : Form → PageOf → Option (List Text) → Option (List Text) → Said
 form_said (form.Html named) p script answers = page_said p script answers
 form_said (form.Tell named) p script answers = transcript script answers
+form_said (form.Events named) p script answers = events script answers
 form_said form.Counts p script answers = counts_rows
 form_said (form.CountsAt line) p script answers = use_rows line
 form_said (form.StateAt line) p script answers = state_rows line
@@ -86,4 +87,5 @@ IsUnread name took took' result =
 abbrev pub usage_text : Text
 usage_text =
     codes "usage: mmshow html [SCRIPT [ANSWERS]] | tell [SCRIPT [ANSWERS]] "
-    ++ (codes "| counts [LINE] | state LINE | frame N | key KEY | faults | sums" ++ 10 ∷ [])
+    ++ (codes "| events [SCRIPT [ANSWERS]] | counts [LINE] | state LINE | frame N | key KEY | faults "
+    ++ (codes "| sums" ++ 10 ∷ []))

@@ -20,6 +20,8 @@ pub enum Form {
     Html(Files),
     /// The lines, and in words what each did, with so many files beside the log.
     Tell(Files),
+    /// A row of csv for each move, with so many files beside the log.
+    Events(Files),
     /// A row of counts after each line.
     Counts,
     /// What the page frames are used for after a line, 1 to 1,000,000.
@@ -99,6 +101,15 @@ fn tell_form(count: usize) -> Option<Form>
     }
 }
 
+fn events_form(count: usize) -> Option<Form>
+    ensures { result ≡ option_map form.Events (files_beside count) }
+{
+    match files_beside(count) {
+        Some(files) => Some(Form::Events(files)),
+        None => None,
+    }
+}
+
 fn alone(form: Form, count: usize) -> Option<Form>
     ensures { result ≡ alone form count }
 {
@@ -167,6 +178,8 @@ fn form_in(name: &[u8], values: &[&str]) -> Option<Form>
         html_form(count)
     } else if is_text(name, b"tell") {
         tell_form(count)
+    } else if is_text(name, b"events") {
+        events_form(count)
     } else if is_text(name, b"counts") {
         counts_form(first, count)
     } else if is_text(name, b"state") {
@@ -200,6 +213,7 @@ pub(crate) fn asked(alloc: Global, words: &[String]) -> Result<Option<Form>, NoM
     let forms = [
         words_form("html", 0, 2),
         words_form("tell", 0, 2),
+        words_form("events", 0, 2),
         words_form("counts", 0, 1),
         words_form("state", 1, 1),
         words_form("frame", 1, 1),

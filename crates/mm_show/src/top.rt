@@ -9,14 +9,13 @@ ghost use Rattle.mm_show.specs.{IsUnread, usage_text, whole_page};
 use crate::forms::{Files, Form, asked, word_at};
 use crate::pages::{PageTexts, page_teller};
 use crate::sums::SumTeller;
-use mm_faults::FaultTeller;
-use mm_histories::HistoryTeller;
+use mm_events::EventTeller;
 use mm_io::{Sink, Source};
 use mm_log_check::write_text;
 use mm_log_walk::{FileFault, Lines, answered, named_lines};
+use mm_reports::{CountsTeller, FaultTeller, HistoryTeller, StateTeller, UseTeller};
 use mm_transcripts::TranscriptTeller;
 use mm_types::NoMemory;
-use mm_uses::{CountsTeller, StateTeller, UseTeller};
 use std::alloc::Global;
 
 /// Writes some words, a name and a line feed.
@@ -33,7 +32,8 @@ fn put_named(words: &[u8], name: &[u8], text: &mut Vec<u8>) -> Result<(), NoMemo
 
 /// What is written where the words are no form.
 const USAGE: &[u8] = b"usage: mmshow html [SCRIPT [ANSWERS]] | tell [SCRIPT [ANSWERS]] \
-    | counts [LINE] | state LINE | frame N | key KEY | faults | sums\n";
+    | events [SCRIPT [ANSWERS]] | counts [LINE] | state LINE | frame N | key KEY | faults \
+    | sums\n";
 
 /// The status where memory was refused.
 const NO_MEMORY: u8 = 1;
@@ -89,6 +89,10 @@ fn shown<S: Source, O: Sink>(
             let mut teller = TranscriptTeller::new(alloc, script, answers);
             answered(alloc, script, log, &mut teller, out)
         }
+        Form::Events(_) => {
+            let mut teller = EventTeller::new(alloc, script, answers);
+            answered(alloc, script, log, &mut teller, out)
+        }
         Form::Counts => answered(alloc, script, log, &mut CountsTeller::new(), out),
         Form::CountsAt(line) => {
             answered(alloc, script, log, &mut UseTeller::new(alloc, line), out)
@@ -125,6 +129,7 @@ fn files_of(form: Form) -> Files
     match form {
         Form::Html(files) => files,
         Form::Tell(files) => files,
+        Form::Events(files) => files,
         _ => Files::None,
     }
 }

@@ -19,7 +19,7 @@ pub use Failures.{code_name, failure_name, raise_name}
 pub use Keeping.{AreTouchedBefore, age_by, age_in, one_age_more, same_thread}
 pub use Named.{failure_row}
 pub use Numbers.{has_name, union_text}
-pub use Reasons.{words_if}
+pub use Reasons.{age_words, process_words, words_if}
 pub use Remarks.{answer_remark, bracketed, event_remark, named_numbers, named_or, numbers_of}
 pub use Remarks.{remark_by, told_names, told_remark}
 unfoldable pub use Remarks.{remark_text}

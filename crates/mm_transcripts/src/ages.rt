@@ -67,7 +67,7 @@ impl Ages {
     ghost use Rattle.mm_transcripts.specs.Shown.{ages_of};
 
     /// Before a log: no page is valid.
-    pub(crate) fn new(alloc: Global) -> Ages
+    pub fn new(alloc: Global) -> Ages
         ensures { ages_of result ≡ no_ages }
     {
         Ages {

@@ -14,6 +14,8 @@ mod stamps;
 mod transcripts;
 mod worked;
 
+pub use ages::Ages;
 pub use name_laws::{failures_have_names, names_are_read_again};
-pub use transcripts::TranscriptTeller;
+pub use reasons::{Reason, put_age, put_process};
+pub use transcripts::{TranscriptTeller, follow_ages, reason_then};
 pub use worked::{rewritten_page_is_told, smallest_set_is_told};

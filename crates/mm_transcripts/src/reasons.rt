@@ -42,7 +42,8 @@ fn put_number(front: &[u8], number: u64, end: &[u8], text: &mut Vec<u8>) -> Resu
     Ok(())
 }
 
-fn put_age(age: u64, text: &mut Vec<u8>) -> Result<(), NoMemory>
+/// Writes the age of a page that left its working set: that it was the oldest, or the lowest of age 0.
+pub fn put_age(age: u64, text: &mut Vec<u8>) -> Result<(), NoMemory>
     ensures { OnOk result (text.new.items ≡ text.old.items ++ age_words age) }
 {
     if age == 0 {
@@ -52,7 +53,8 @@ fn put_age(age: u64, text: &mut Vec<u8>) -> Result<(), NoMemory>
     put_number(b"oldest: age ", age, b"", text)
 }
 
-fn put_process(reason: &Reason, text: &mut Vec<u8>) -> Result<(), NoMemory>
+/// Writes that the process of the working set was the first above its minimum, if it was.
+pub fn put_process(reason: &Reason, text: &mut Vec<u8>) -> Result<(), NoMemory>
     ensures { OnOk result (text.new.items ≡ text.old.items ++ process_words reason.now) }
 {
     if !reason.is_above_min {

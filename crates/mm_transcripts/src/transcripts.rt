@@ -36,7 +36,7 @@ fn has_ages(script: &Option<Lines>, answers: &Option<Lines>) -> bool
 }
 
 /// Takes a line or a move into the ages, where they are known.
-fn follow_ages(
+pub fn follow_ages(
     script: &Option<Lines>,
     answers: &Option<Lines>,
     m: &Move,
@@ -56,7 +56,7 @@ fn follow_ages(
 }
 
 /// Why a page leaves its working set, where ages are known.
-fn reason_then(
+pub fn reason_then(
     script: &Option<Lines>,
     answers: &Option<Lines>,
     ages: &Ages,

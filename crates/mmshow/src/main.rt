@@ -94,7 +94,7 @@ fn has_files(words: &[String]) -> bool {
     match words.get(0) {
         Some(name) => {
             let name = name.as_bytes();
-            name == b"html".as_slice() || name == b"tell".as_slice()
+            name == b"html".as_slice() || name == b"tell".as_slice() || name == b"events".as_slice()
         }
         None => false,
     }

@@ -11,4 +11,4 @@ returns-in-Ok c =
 pub returns-else-is_for_memory : goal.returns-else-is_for_memory
 returns-else-is_for_memory c free =
     refused (words_app c.args.forms.now) (map string_bytes c.args.words.now) c.in-Err.error c.in_ok-command.command c.in_ok-command.ensures
-    (simple_some c.args.forms.now c.requires.some) c.in-Err.ensures.kinds (rw c.if-is_for_memory.false at c.is_for_memory.ensures) free
+    (simple_some c.args.forms.now c.requires.some) c.in-Err.ensures.kinds (rw c.if-is_for_memory.false at c.is_for_memory.ensures.no) free

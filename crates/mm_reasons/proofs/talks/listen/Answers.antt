@@ -1,7 +1,22 @@
-use Rattle.std.proofs.Common.{◌∙◌, arith}
+use Rattle.std.proofs.Common.{rules, ◌∙◌, take, arith}
 use Rattle.mm_types.proofs.{rose_later}
-use Rattle.mm_reasons.proofs.{said_then, talked_then, blamed_write, well_then}
+use Rattle.mm_reasons.proofs.{blamed_write, listens_none, listens_on, listens_then, stops_long, stops_reading, stops_then, well_then}
 use Rattle.mm_reasons.proofs.talks.listen.Goals as goal
+
+pub loop-turn-init : goal.loop-turn-init
+loop-turn-init g c =
+    record {
+      listens = listens_none _ _ _ _ c.requires;
+      source_later = omega arith;
+      later = omega arith;
+      err_later = omega arith;
+      source_same = search rules;
+      out_well = search rules;
+      err_well = search rules;
+    }
+
+pub returns-in-Err-clause-said : goal.returns-in-Err-clause-said
+returns-in-Err-clause-said g c = stops_reading (listens_on (g.S.Source.left c.read.new.self) c.loop-turn.invariant.listens c.in-Err.ensures.bytes)
 
 pub returns-in-Err-clause-blame : goal.returns-in-Err-clause-blame
 returns-in-Err-clause-blame g c =
@@ -9,11 +24,13 @@ returns-in-Err-clause-blame g c =
     rose_later (faults c.args.source.now) (faults c.loop-turn.source) (faults c.read.new.self)
     c.loop-turn.invariant.source_later c.in-Err.ensures.cause.failed
 
+pub returns-clause-said : goal.returns-clause-said
+returns-clause-said g c = stops_long c.loop-turn.invariant.listens
+
 pub returns-in-Err-take_bytes-clause-said : goal.returns-in-Err-take_bytes-clause-said
 returns-in-Err-take_bytes-clause-said g c =
-    let taken = g.O.Sink.taken in
-    talked_then c.in-Err-take_bytes.ending (taken c.args.out.now) (taken c.loop-turn.out) (taken c.take_bytes.new.out)
-    c.loop-turn.invariant.said c.in-Err-take_bytes.ensures.said
+    stops_then c.in-Err-take_bytes.ending (g.S.Source.left c.read.new.self) (take c.in-Ok.count c.read.new.buf) (g.O.Sink.taken c.take_bytes.new.out)
+    c.loop-turn.invariant.listens c.in-Ok.ensures.bytes.bytes c.in-Err-take_bytes.ensures.said
 
 pub returns-in-Err-take_bytes-clause-blame : goal.returns-in-Err-take_bytes-clause-blame
 returns-in-Err-take_bytes-clause-blame g c =
@@ -26,10 +43,9 @@ returns-in-Err-take_bytes-clause-blame g c =
 
 pub loop-turn-preserved : goal.loop-turn-preserved
 loop-turn-preserved g c =
-    let taken = g.O.Sink.taken in
     let i = c.loop-turn.invariant in
     record {
-      said = said_then (taken c.args.out.now) (taken c.loop-turn.out) (taken c.take_bytes.new.out) i.said
+      listens = listens_then (g.S.Source.left c.read.new.self) (take c.in-Ok.count c.read.new.buf) i.listens c.in-Ok.ensures.bytes.bytes
           c.in-Ok-take_bytes.ensures.said;
       source_later = omega (arith, c.read.ensures.cause.later, i.source_later);
       later = omega (arith, c.take_bytes.ensures.later, i.later);

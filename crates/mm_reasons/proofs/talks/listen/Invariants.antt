@@ -1,10 +1,10 @@
 use Rattle.std.proofs.Common.{◌≡◌, ◌≤◌}
-use Rattle.mm_reasons.specs.{GoesWell, sink_seen, Said}
+use Rattle.mm_reasons.specs.{GoesWell, Listens, sink_seen}
 use Rattle.mm_reasons.proofs.talks.listen.Given as goal
 
 abbrev pub invariant-loop-turn : goal.invariant-loop-turn
 invariant-loop-turn g l = record {
-  said : Said (g.O.Sink.taken l.fn.out) (g.O.Sink.taken l.out);
+  listens : Listens (g.S.Source.left l.fn.source) (g.S.Source.left l.source) l.fn.explainer l.fn.line.items l.explainer l.line.items (g.O.Sink.taken l.fn.out) (g.O.Sink.taken l.out);
   source_later : g.S.Source.faults l.fn.source ≤ g.S.Source.faults l.source;
   later : g.O.Sink.faults l.fn.out ≤ g.O.Sink.faults l.out;
   err_later : g.E.Sink.faults l.fn.err ≤ g.E.Sink.faults l.err;

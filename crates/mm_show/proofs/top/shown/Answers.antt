@@ -1,9 +1,8 @@
 use Rattle.mm_show.specs.{whole_page}
 use Rattle.mm_show.proofs.{said_page, said_sums, told_as, said_is}
 use Rattle.mm_transcripts.specs.{transcript_rest}
-use Rattle.mm_uses.specs.{counts_rest, use_rest, state_rest}
-use Rattle.mm_histories.specs.{history_rest}
-use Rattle.mm_faults.specs.{fault_rest}
+use Rattle.mm_events.specs.{events_rest}
+use Rattle.mm_reports.specs.{counts_rest, fault_rest, history_rest, state_rest, use_rest}
 use Rattle.mm_show.proofs.top.shown.Goals as goal
 
 pub returns-in-Ok-clause-answers : goal.returns-in-Ok-clause-answers
@@ -13,6 +12,10 @@ returns-in-Ok-clause-answers g c =
 pub returns-in-Tell-clause-answers : goal.returns-in-Tell-clause-answers
 returns-in-Tell-clause-answers g c =
     told_as c.args.form _ (whole_page c.args.page.now) c.args.script.now c.args.answers.now _ _ _ _ _ _ c.in-Tell.is (said_is (transcript_rest c.new-teller.result) _ c.new-teller.ensures) c.answered-in-Tell.ensures.answers
+
+pub returns-in-Events-clause-answers : goal.returns-in-Events-clause-answers
+returns-in-Events-clause-answers g c =
+    told_as c.args.form _ (whole_page c.args.page.now) c.args.script.now c.args.answers.now _ _ _ _ _ _ c.in-Events.is (said_is (events_rest c.new-teller-in-Events.result) _ c.new-teller-in-Events.ensures) c.answered-in-Events.ensures.answers
 
 pub returns-in-Counts-clause-answers : goal.returns-in-Counts-clause-answers
 returns-in-Counts-clause-answers g c =

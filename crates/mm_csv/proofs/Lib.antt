@@ -1,0 +1,3 @@
+pub mod Doubling
+pub mod Behind
+pub use Behind.{nexts_before}

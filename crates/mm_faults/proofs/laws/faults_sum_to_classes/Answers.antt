@@ -1,5 +1,0 @@
-use Rattle.mm_faults.proofs.{sums_to_classes}
-use Rattle.mm_faults.proofs.laws.faults_sum_to_classes.Goals as goal
-
-pub returns : goal.returns
-returns c = sums_to_classes

@@ -1,7 +1,0 @@
-use Rattle.std.proofs.Common.{◌≡◌, ◌++◌}
-use Rattle.std.specs.Prelude.{flat_map}
-use Rattle.mm_faults.specs.{page_row}
-use Rattle.mm_faults.proofs.rows.put_page_rows.Given as goal
-
-abbrev pub invariant-loop-place : goal.invariant-loop-place
-invariant-loop-place l = l.text.items ++ flat_map (page_row l.pid) l.place-iterator ≡ l.fn.text.items ++ flat_map (page_row l.pid) l.pages.entries

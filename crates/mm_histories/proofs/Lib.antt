@@ -1,4 +1,0 @@
-pub mod Told
-pub mod Pieces
-pub use Told.{history_none, history_taken}
-pub use Pieces.{three}

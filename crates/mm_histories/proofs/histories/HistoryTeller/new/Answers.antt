@@ -1,6 +1,0 @@
-use Rattle.mm_move_classes.specs.{marks_of}
-use Rattle.mm_histories.proofs.{history_none}
-use Rattle.mm_histories.proofs.histories.HistoryTeller.new.Goals as goal
-
-pub returns : goal.returns
-returns c = history_none c.args.subject c.new.result.pending (marks_of c.new.result.marks) c.new.ensures.marks c.new.ensures.none

@@ -1,0 +1,107 @@
+-- All that stands after a line: lists, requests, frames, working sets and slots.
+-- Profile, "What a log shows".
+use Rattle.std.specs.Prelude.{ℕ, zero, suc, ◌+◌, Bool, ◌==◌, if◌then◌else◌, List, [], ◌∷◌, ◌++◌}
+use Rattle.std.specs.Prelude.{flat_map, codes}
+use Rattle.std.specs.declared.cmp.Ordering.{Ordering}
+use Rattle.std.specs.Ordering.{nat_cmp, ordering_then}
+use Rattle.std.specs.BTreeMap.{is_at}
+use Rattle.std.specs.BTreeSet.{insert_key}
+use Rattle.std.specs.Set.{remove_key}
+use Rattle.mm_types.specs.{Text, decimal, Record, Move, Place}
+use Rattle.mm_types.specs.declared.moves.LineKind.TheVariants as kind
+use Rattle.mm_types.specs.declared.moves.Move.TheVariants as move
+use Rattle.mm_move_rules.specs.{ResidentSet, after_move, FrameTable, record_at, FrameLife, counts_of, unstarted, numbered}
+use Rattle.mm_sentences.specs.{frame_row_text, state_by}
+use Rattle.mm_reports.specs.Lines.{is_among, is_line, line_ends, unless_found}
+
+-- ---- the valid pages
+
+-- a valid page: its process, and its number
+abbrev pub ValidPage : Type 0
+ValidPage = ℕ × ℕ
+
+abbrev pub page_cmp : ValidPage → ValidPage → Ordering
+page_cmp a b = ordering_then (nat_cmp a.0 b.0) (nat_cmp a.1 b.1)
+
+abbrev pub page_at : Place → ValidPage
+page_at place = (place.pid.0, place.vpn.0)
+
+-- the valid pages, rising, after one move more
+abbrev pub pages_after : List ValidPage → Move → List ValidPage
+pages_after pages (move.At n (kind.Machine frames slots depth blocks)) = []
+pages_after pages (move.Map f place) = insert_key page_cmp pages (page_at place)
+pages_after pages (move.Unmap place) = remove_key (is_at (page_cmp (page_at place))) pages
+pages_after pages _ = pages
+
+-- ---- rows
+
+abbrev pub frame_word : ℕ → Text
+frame_word f = 32 ∷ decimal f
+
+-- a name, and frames in order
+abbrev pub list_row : Text → List ℕ → Text
+list_row name frames = name ++ (flat_map frame_word frames ++ 10 ∷ [])
+
+abbrev pub frame_line : FrameTable → ℕ → Record → Text
+frame_line d f r =
+    numbered (codes "frame ") f (32 ∷ [] ++ (frame_row_text (state_by d f r) r ++ 10 ∷ []))
+
+-- so many frames from this number on
+abbrev pub frame_lines : FrameTable → ℕ → ℕ → Text
+frame_lines d f zero = []
+frame_lines d f (suc count) = frame_line d f (record_at d f) ++ frame_lines d (f + 1) count
+
+-- the number of a page, if it is of this process
+abbrev pub page_word : ℕ → ValidPage → Text
+page_word pid page = if page.0 == pid then 32 ∷ decimal page.1 else []
+
+abbrev pub process_line : List ValidPage → ℕ → ResidentSet → Text
+process_line pages pid s =
+    numbered (codes "process ") pid
+    (numbered (codes " min ") s.min (numbered (codes " max ") s.max (codes " pages"
+    ++ (flat_map (page_word pid) pages ++ 10 ∷ []))))
+
+-- the processes from this number on
+abbrev pub process_lines : List ValidPage → ℕ → List ResidentSet → Text
+process_lines pages pid [] = []
+process_lines pages pid (s ∷ ss) = process_line pages pid s ++ process_lines pages (pid + 1) ss
+
+abbrev pub slots_line : FrameLife → Text
+slots_line l =
+    numbered (codes "slots ") (counts_of l).free_slots
+    (numbered (codes " of ") l.machine.slots (codes " free" ++ 10 ∷ []))
+
+abbrev pub list_rows : FrameLife → Text
+list_rows l =
+    list_row (codes "zeroed") l.frames.zeroed ++ (list_row (codes "free") l.frames.free
+    ++ (list_row (codes "standby") l.frames.standby
+    ++ (list_row (codes "modified") l.frames.modified
+    ++ list_row (codes "requests") l.flight)))
+
+abbrev pub state_text : FrameLife → List ValidPage → Text
+state_text l pages =
+    numbered (codes "after line ") l.line (10 ∷ [])
+    ++ (list_rows l ++ (frame_lines l.frames 0 l.machine.frames
+    ++ (process_lines pages 1 l.sets ++ slots_line l)))
+
+-- ---- the line that is asked for
+
+-- what is told where a line ends
+abbrev pub state_at : ℕ → FrameLife → List ValidPage → Text
+state_at line l pages =
+    if l.line == 0 then [] else if is_line line l then state_text l pages else []
+
+-- what is told as this move ends a line
+abbrev pub state_ended_by : ℕ → FrameLife → List ValidPage → Move → Text
+state_ended_by line l pages (move.At n k) = state_at line l pages
+state_ended_by line l pages _ = []
+
+abbrev pub state_from : ℕ → Bool → FrameLife → List ValidPage → List Move → Text
+state_from line whole l pages [] = if whole then state_at line l pages else []
+state_from line whole l pages (m ∷ ms) =
+    state_ended_by line l pages m ++ state_from line whole (after_move l m) (pages_after pages m) ms
+
+abbrev pub state_rows : ℕ → Bool → List Move → Text
+state_rows line whole moves =
+    state_from line whole unstarted [] moves
+    ++ unless_found whole (is_among line (line_ends whole unstarted moves))
