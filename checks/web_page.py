@@ -155,19 +155,19 @@ class Checks:
         self.after(page, "putText('machine 64 64 4 0\\nprocess 0 32\\n')")
         page.js("(editor.script.focus(), editor.script.execCommand('goDocEnd'))")
         page.type("Virt")
-        page.wait("!!document.querySelector('.CodeMirror-hints')", 20)
+        hinted(page)
         shown = page.js("document.querySelector('.CodeMirror-hints').textContent")
         self.holds("a call with its arguments", "VirtualAlloc pid, addr, size, type, prot" in shown)
         page.press("Enter")
         page.type("(1, 0, 64K, MEM_COM")
-        page.wait("!!document.querySelector('.CodeMirror-hints')", 20)
+        hinted(page)
         self.holds(
             "a name",
             "MEM_COMMIT" in page.js("document.querySelector('.CodeMirror-hints').textContent"),
         )
         page.press("Enter")
         page.type(", PAGE_READW")
-        page.wait("!!document.querySelector('.CodeMirror-hints')", 20)
+        hinted(page)
         page.press("Enter")
         page.type(")")
         page.wait("run.answers.length === 3 && run.answers[2] === 'ok 0x00010000'", 30)
@@ -176,7 +176,7 @@ class Checks:
             page.js("editor.script.getLine(2)"),
             "VirtualAlloc(1, 0, 64K, MEM_COMMIT, PAGE_READWRITE)",
         )
-        help_text = page.js("element('help').textContent")
+        help_text = awaited(page, "element('help').textContent", "MEM_RESERVE")
         self.holds("the rule of its call", "MEM_RESERVE" in help_text and "1455" in help_text)
         page.press("Tab")
         self.holds("Tab leaves the editor", not page.js("editor.script.hasFocus()"))
@@ -373,6 +373,18 @@ WATCH_GAPS = (
     " new PerformanceObserver((seen) => list.push(...seen.getEntries().map((it) => it.duration)))"
     ".observe({ entryTypes: ['longtask'] }); return list; })(), 1"
 )
+
+
+def hinted(page: Page) -> None:
+    """Waits for the list of what may be typed. (A run that ends just then may close it: Ctrl+Space
+    opens it again.)"""
+    shown = "!!document.querySelector('.CodeMirror-hints')"
+    for _ in range(3):
+        try:
+            return page.wait(shown, 3)
+        except Trouble:
+            page.press(" ", modifiers=2)
+    page.wait(shown, 10)
 
 
 def awaited(page: Page, text: str, part: str) -> str:
