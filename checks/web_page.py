@@ -194,8 +194,12 @@ class Checks:
             "its moves in words",
             "hard fault" in awaited(page, "element('moves').textContent", "hard fault"),
         )
-        page.wait("performance.now() - document.querySelector('iframe').dataset.told > 400")
-        page.js(CHOSEN % (12, "document.querySelector('iframe').contentWindow"))
+        frame = "document.querySelector('iframe:last-child')"
+        page.js("editor.script.focus()")
+        page.js(CHOSEN % (12, frame + ".contentWindow"))
+        self.same("chosen right by no person", page.js("editor.line()"), 32)
+        page.js(frame + ".focus()")
+        page.js(CHOSEN % (12, frame + ".contentWindow"))
         self.same("chosen right", page.js("editor.line()"), 22)
         page.js(CHOSEN % (3, "window"))
         self.same("chosen by another window", page.js("editor.line()"), 22)
@@ -376,14 +380,14 @@ WATCH_GAPS = (
 
 
 def hinted(page: Page) -> None:
-    """Waits for the list of what may be typed. (A run that ends just then may close it: Ctrl+Space
-    opens it again.)"""
+    """Waits for the list of what may be typed, until it rests as a person would. (A run that ends just
+    then may close it: Ctrl+Space opens it again.)"""
     shown = "!!document.querySelector('.CodeMirror-hints')"
-    for _ in range(3):
-        try:
-            return page.wait(shown, 3)
-        except Trouble:
-            page.press(" ", modifiers=2)
+    for _ in range(5):
+        time.sleep(0.6)
+        if page.js(shown):
+            return
+        page.press(" ", modifiers=2)
     page.wait(shown, 10)
 
 
