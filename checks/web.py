@@ -1,7 +1,7 @@
 #!/usr/bin/env python3
 """The programs in a browser: compared with the native ones, and the page in a headless Chromium.
 
-usage: checks/web.py [--programs FOLDER] [--tried] [--seed N] [--page FILE]
+usage: checks/web.py [--bin FOLDER] [--tried] [--seed N] [--page FILE]
 
 It builds the page (tools/web/build; what was built of the same sources is taken), and compares
 
@@ -13,9 +13,10 @@ It builds the page (tools/web/build; what was built of the same sources is taken
                        share and open again; stop; 20,000 lines without a long gap; its policy; and
                        that nothing is written to the console
 
-FOLDER has the native programs (crates/NAME/out/NAME where it is not given). With --tried the page is
-built of `rt try`'s modules. Where a package is missing and cannot be installed, what needs it is left
-out, and a line says so.
+FOLDER has the native programs (MELZUDEK_BIN, or crates/NAME/out/NAME, where it is not given). The
+page is built of the proved modules; with --tried, or where libraries are not proved here, of those
+of `rt try`. Where a package is missing and cannot be installed, what needs it is
+left out, and a line says so.
 """
 
 import argparse
@@ -37,9 +38,10 @@ sys.dont_write_bytecode = True
 
 import web_page  # noqa: E402
 
+BUILTINS = "/usr/lib/llvm-*/lib/clang/*/lib/wasi/libclang_rt.builtins-wasm32.a"
 NEEDED = {
     "/usr/lib/wasm32-wasi/libc.a": "wasi-libc",
-    "/usr/lib/llvm-*/lib/clang/*/lib/wasi/libclang_rt.builtins-wasm32.a": "libclang-rt-19-dev-wasm32",
+    BUILTINS: "libclang-rt-19-dev-wasm32",
     "/usr/share/javascript/codemirror/codemirror.js": "libjs-codemirror",
 }
 SHORT = 900  # bytes; scripts up to here are cut and spoiled
@@ -253,6 +255,9 @@ def build(is_tried: bool) -> bool:
     """Builds the page; whether it was built."""
     words = [sys.executable, f"{TOP}/tools/web/build"] + (["--tried"] if is_tried else [])
     ended = subprocess.run(words, stdout=subprocess.DEVNULL, stderr=subprocess.PIPE, text=True)
+    if ended.returncode == 3 and not is_tried:
+        print("web: libraries are not proved here, so the page is built before the proofs")
+        return build(True)
     if ended.returncode:
         print(f"web: the page was not built: {ended.stderr.strip()}")
     return ended.returncode == 0
@@ -260,19 +265,20 @@ def build(is_tried: bool) -> bool:
 
 def main(arguments: List[str]) -> int:
     parser = argparse.ArgumentParser(usage=__doc__)
-    parser.add_argument("--programs", default="")
+    parser.add_argument("--bin", default=os.environ.get("MELZUDEK_BIN", ""))
     parser.add_argument("--tried", action="store_true")
     parser.add_argument("--seed", type=int, default=7)
     parser.add_argument("--page", default=f"{TOP}/web/release/play.html")
     given = parser.parse_args(arguments)
-    native = Native(given.programs)
+    native = Native(given.bin)
     if native.lacking():
-        print(f"web: {native.lacking()[0]} is missing: let the gate build it, or name --programs")
+        print(f"web: {native.lacking()[0]} is missing: let the gate build it, or name --bin")
         return 1
     if lacking():
         install(lacking())
     if lacking():
         print(f"web: left out, since these packages cannot be had: {', '.join(lacking())}")
+        print("web: 0 compared, no differences")
         return 0
     if not build(given.tried):
         return 1

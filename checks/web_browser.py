@@ -1,4 +1,4 @@
-"""A headless Chromium over its debugger's pipe, for checks/web.py: no package beside chromium is needed."""
+"""A headless Chromium over its debugger's pipe, for checks/web.py: only chromium is needed."""
 
 import base64
 import json
@@ -12,7 +12,7 @@ from typing import Any, Dict, List, Optional
 EVENTS = ("Runtime.exceptionThrown", "Runtime.consoleAPICalled", "Log.entryAdded")
 WORDS = ["--headless=new", "--no-sandbox", "--remote-debugging-pipe", "--disable-gpu"]
 WORDS += ["--no-first-run", "--hide-scrollbars", "about:blank"]
-KEYS = {"Enter": 13, "Tab": 9, "Escape": 27, "F6": 117, "ArrowDown": 40}
+KEYS = {" ": 32, "Enter": 13, "Tab": 9, "Escape": 27, "F6": 117, "ArrowDown": 40}
 
 
 class Trouble(Exception):

@@ -1,6 +1,6 @@
 // Runs cases on the WebAssembly programs, all in one process: web_node.mjs HOST BUILT CASES RESULTS
-// HOST is web/play/host.js, the host that the page has too. A case is [program, words, input's file,
-// {name: file}], its result [status, SHA-256 of the output, SHA-256 of standard error].
+// HOST is web/play/host.js, the host that the page has too. A case is [program, words, input's
+// file, {name: file}], its result [status, SHA-256 of the output, SHA-256 of standard error].
 import crypto from 'crypto';
 import fs from 'fs';
 

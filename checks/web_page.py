@@ -1,6 +1,6 @@
 """The page of the programs, in a headless Chromium: the part of checks/web.py that needs a browser.
 
-Each check gives the number of things that it compared, and raises Trouble, or tells of what differs.
+Each check counts what it compared, tells of what differs, and raises Trouble where nothing comes.
 """
 
 import json
@@ -14,6 +14,7 @@ from web_browser import Page, Trouble, find_browser
 
 LONGEST_GAP = 200  # milliseconds in which the page's own thread may be busy at once
 LINES = 20_000
+LEAST, MOST = 0x10000, 0x7FFF0000  # the user addresses
 RUNS = "Number(document.documentElement.dataset.runs ?? 0)"
 SHOWN = "!!document.querySelector('iframe.shown')"
 
@@ -73,10 +74,7 @@ class Checks:
         for it in page.js("data.examples.map(({ name, script }) => ({ name, script }))"):
             name, script = it["name"], it["script"]
             wanted = self.natively(script)
-            got = page.js(
-                f"first.ask('run', {{ script: data.examples.find((it) => it.name === {json.dumps(name)}).script, wantsPage: true }})"
-                ".then((said) => first.ask('files').then((files) => ({ ...said, ...files })))"
-            )
+            got = page.js(RUN_EXAMPLE % json.dumps(name))
             for part in ("plain", "answers", "log", "page"):
                 self.same(f"{name}: {part}", got[part], wanted[part])
             self.names(page, name, wanted)
@@ -108,7 +106,7 @@ class Checks:
                 self.holds(f"{name}: {answer} is {meant}", f"{answer} [{meant}]" in wanted["tell"])
 
     def spaces(self, page: Page) -> None:
-        """The address spaces and the charge behind a line, asked natively at each base that is shown."""
+        """The address spaces and the charge behind a line, asked natively at each base shown."""
         for name in ("lab", "under-pressure", "shared-section", "stack-grows"):
             self.after(page, f"putExample({json.dumps(name)})")
             plain = page.js("first.ask('files').then(({ plain }) => plain)").splitlines()
@@ -127,11 +125,12 @@ class Checks:
                 shown = [" ".join(["ok", *(f"0x{it[key]:08X}" for key in keys)]) for it in regions]
                 shown.append(f"ok {got['charge']} {got['limit']}")
                 self.same(f"{name}: address spaces behind line {line}", shown, answers)
-                ends = [
-                    sum(it["regions"][-1][key] for key in ("base", "size"))
-                    for it in got["processes"]
-                ]
-                self.same(f"{name}: each walk ends at the end", set(ends) - {0x7FFF0000}, set())
+                for it in got["processes"]:
+                    ends = [region["base"] + region["size"] for region in it["regions"]]
+                    bases = [region["base"] for region in it["regions"]]
+                    self.same(
+                        f"{name}: no gap in a walk", bases + ends[-1:], [LEAST, *ends[:-1], MOST]
+                    )
 
     def mistakes(self, page: Page) -> None:
         """A mistake stands at its line with its reason, and goes when it is mended."""
@@ -139,7 +138,7 @@ class Checks:
             page, "putText('machine 64 64 4 0\\nprocess 0 32\\n\\nraed 1 0x10000 4\\ncharge\\n')"
         )
         reason = "no such word 'raed'; is 'read' meant?"
-        row = "[...document.querySelectorAll('#answers .CodeMirror-line')].map((it) => it.textContent)[3]"
+        row = "[...document.querySelectorAll('#answers .CodeMirror-line')][3].textContent"
         self.holds("a mistake at its line", reason in page.js(row))
         self.holds("a mistake below", f"line 4: {reason}" in page.js("element('told').textContent"))
         sign = "!!editor.script.lineInfo(3).gutterMarkers?.signs"
@@ -156,19 +155,19 @@ class Checks:
         self.after(page, "putText('machine 64 64 4 0\\nprocess 0 32\\n')")
         page.js("(editor.script.focus(), editor.script.execCommand('goDocEnd'))")
         page.type("Virt")
-        page.wait("!!document.querySelector('.CodeMirror-hints')", 20)
+        hinted(page)
         shown = page.js("document.querySelector('.CodeMirror-hints').textContent")
         self.holds("a call with its arguments", "VirtualAlloc pid, addr, size, type, prot" in shown)
         page.press("Enter")
         page.type("(1, 0, 64K, MEM_COM")
-        page.wait("!!document.querySelector('.CodeMirror-hints')", 20)
+        hinted(page)
         self.holds(
             "a name",
             "MEM_COMMIT" in page.js("document.querySelector('.CodeMirror-hints').textContent"),
         )
         page.press("Enter")
         page.type(", PAGE_READW")
-        page.wait("!!document.querySelector('.CodeMirror-hints')", 20)
+        hinted(page)
         page.press("Enter")
         page.type(")")
         page.wait("run.answers.length === 3 && run.answers[2] === 'ok 0x00010000'", 30)
@@ -177,7 +176,7 @@ class Checks:
             page.js("editor.script.getLine(2)"),
             "VirtualAlloc(1, 0, 64K, MEM_COMMIT, PAGE_READWRITE)",
         )
-        help_text = page.js("element('help').textContent")
+        help_text = awaited(page, "element('help').textContent", "MEM_RESERVE")
         self.holds("the rule of its call", "MEM_RESERVE" in help_text and "1455" in help_text)
         page.press("Tab")
         self.holds("Tab leaves the editor", not page.js("editor.script.hasFocus()"))
@@ -195,19 +194,20 @@ class Checks:
             "its moves in words",
             "hard fault" in awaited(page, "element('moves').textContent", "hard fault"),
         )
-        frame = "document.querySelector('iframe').contentWindow"
-        page.js(
-            f"dispatchEvent(new MessageEvent('message', {{ data: {{ melzudek: 'chosen', line: 12 }}, source: {frame} }}))"
-        )
+        frame = "document.querySelector('iframe:last-child')"
+        page.js("editor.script.focus()")
+        page.js(CHOSEN % (12, frame + ".contentWindow"))
+        self.same("chosen right by no person", page.js("editor.line()"), 32)
+        page.js(frame + ".focus()")
+        page.js(CHOSEN % (12, frame + ".contentWindow"))
         self.same("chosen right", page.js("editor.line()"), 22)
-        page.js(
-            "dispatchEvent(new MessageEvent('message', { data: { melzudek: 'chosen', line: 3 }, source: window }))"
-        )
+        page.js(CHOSEN % (3, "window"))
         self.same("chosen by another window", page.js("editor.line()"), 22)
 
     def share(self, page: Page) -> None:
         """Share puts the script into the address; the address opens it again."""
-        script = "machine 16 8 2 0\nprocess 0 8  # \u00e4\nVirtualAlloc(1, 0, 4K, MEM_COMMIT, PAGE_READONLY)\n"
+        script = "machine 16 8 2 0\nprocess 0 8  # \u00e4\n"
+        script += "VirtualAlloc(1, 0, 4K, MEM_COMMIT, PAGE_READONLY)\n"
         self.after(page, f"putText({json.dumps(script)})")
         page.js("element('share').onclick()")
         page.wait("location.hash.startsWith('#script=')")
@@ -310,8 +310,7 @@ class Checks:
         try:
             refused = "fetch('https://example.org/').then(() => 'fetched', () => 'refused')"
             self.same("a fetch", page.js(refused), "refused")
-            image = "new Promise((end) => { const it = new Image(); it.onload = () => end('loaded'); it.onerror = () => end('refused'); it.src = 'https://example.org/a.png'; })"
-            self.same("an image", page.js(image), "refused")
+            self.same("an image", page.js(LOAD_IMAGE), "refused")
             said = json.dumps(page.events)
             self.holds(
                 "its policy refuses it", "Content Security Policy" in said and "default-src" in said
@@ -342,6 +341,19 @@ class Checks:
                 page.close()
 
 
+RUN_EXAMPLE = (
+    "(async () => { const { script } = data.examples.find((it) => it.name === %s);"
+    " const said = await first.ask('run', { script, wantsPage: true });"
+    " return { ...said, ...(await first.ask('files')) }; })()"
+)
+CHOSEN = (
+    "dispatchEvent(new MessageEvent('message',"
+    " { data: { melzudek: 'chosen', line: %d }, source: %s }))"
+)
+LOAD_IMAGE = (
+    "new Promise((end) => { const it = new Image(); it.onload = () => end('loaded');"
+    " it.onerror = () => end('refused'); it.src = 'https://example.org/a.png'; })"
+)
 CATCH_SAVED = (
     "globalThis.saved = {}, URL.createObjectURL = (blob) => (globalThis.blob = blob, 'blob:none'),"
     " HTMLAnchorElement.prototype.click = function () { const name = this.download;"
@@ -362,9 +374,21 @@ ASK_SECOND = (
 )
 WATCH_GAPS = (
     "globalThis.gaps ??= (() => { const list = [];"
-    " new PerformanceObserver((seen) => seen.getEntries().forEach(({ duration }) => list.push(duration)))"
+    " new PerformanceObserver((seen) => list.push(...seen.getEntries().map((it) => it.duration)))"
     ".observe({ entryTypes: ['longtask'] }); return list; })(), 1"
 )
+
+
+def hinted(page: Page) -> None:
+    """Waits for the list of what may be typed, until it rests as a person would. (A run that ends just
+    then may close it: Ctrl+Space opens it again.)"""
+    shown = "!!document.querySelector('.CodeMirror-hints')"
+    for _ in range(5):
+        time.sleep(0.6)
+        if page.js(shown):
+            return
+        page.press(" ", modifiers=2)
+    page.wait(shown, 10)
 
 
 def awaited(page: Page, text: str, part: str) -> str:

@@ -1,4 +1,4 @@
-"""play.html of its parts: the sources in web/play, the editor, the programs, the examples, the rules."""
+"""play.html of its parts: the sources in web/play, the editor, the programs, examples, rules."""
 
 import base64
 import glob
@@ -155,7 +155,7 @@ def sentences(parts: List[str], keyword: str) -> List[str]:
 
 
 def menu(listed: str, folder: str) -> List[Dict[str, str]]:
-    """The examples with their groups, what they show, and a text; those that are not listed last."""
+    """The examples, with groups, what they show, a text; those that are not listed stand last."""
     found: List[Dict[str, str]] = []
     group = ""
     for line in listed.splitlines():

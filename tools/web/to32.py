@@ -52,7 +52,7 @@ def stop(what: str, line: str) -> None:
 
 
 def value_end(text: str, at: int) -> int:
-    """Where a constant's value ends that begins at `at`: at the comma behind it, or the text's end."""
+    """Where a constant's value ends that begins at `at`: at its comma, or the text's end."""
     if text.startswith('c"', at):
         return text.index('"', at + 2) + 1
     depth = 0

@@ -12,12 +12,13 @@ from typing import Dict, List, Set
 
 HERE = os.path.dirname(os.path.abspath(__file__))
 TARGET = ["--target=wasm32-unknown-unknown", "-mbulk-memory", "--no-default-config"]
-COMPILE = [*TARGET, "-mnontrapping-fptoint", "-msign-ext", "-O3"]
+COMPILE = [*TARGET, "-mnontrapping-fptoint", "-msign-ext", "-O2", "-Xclang", "-fmerge-functions"]
 SHIM = [*TARGET, "-std=c11", "-O2", "-Wall", "-Wextra", "-Werror", "-ffreestanding", "-nostdlib"]
 LINK = ["--no-entry", "--gc-sections", "--strip-all", "-z", "stack-size=1048576", "--stack-first"]
+BUILTINS = "/usr/lib/llvm-*/lib/clang/*/lib/wasi/libclang_rt.builtins-wasm32.a"
 PACKAGES = {
     "wasi-libc": "/usr/lib/wasm32-wasi/libc.a",
-    "libclang-rt-19-dev-wasm32": "/usr/lib/llvm-*/lib/clang/*/lib/wasi/libclang_rt.builtins-wasm32.a",
+    "libclang-rt-19-dev-wasm32": BUILTINS,
 }
 ALLOWED = {"host.read", "host.write"}
 
@@ -94,7 +95,7 @@ def imports(data: bytes) -> Set[str]:
 
 
 def check_imports(program: str, data: bytes) -> None:
-    """Stopped where a module asks the host for more than reading and writing, mmshow for opening."""
+    """Stopped where a module asks the host for more than reading and writing (mmshow: opening)."""
     allowed = ALLOWED | ({"host.open"} if program == "mmshow" else set())
     more = sorted(imports(data) - allowed)
     if more:

@@ -1,20 +1,8 @@
 // The page that mmshow writes of the run, in a frame with an origin of its own. A line that is
 // chosen here is told to it, and one that is chosen there is told here, by messages.
-const SETTLED = 300; // milliseconds after a page was drawn
 const LAID_OUT = 20; // milliseconds, so that the page has its width when it first draws
-// A page in a frame has no address of its own to keep its place in; one that takes no messages is
-// given a listener.
+// A page in a frame has no address of its own to keep its place in.
 const FRAMED = '<head><script>history.replaceState = () => undefined;<\/script>';
-const LISTENER = `<script>addEventListener('message', ({ data }) => {
-  const number = document.getElementById('number');
-  if (!number || data?.melzudek !== 'line') return;
-  number.value = data.line;
-  number.dispatchEvent(new Event('change', { bubbles: true }));
-});<\/script></body>`;
-function framed(html) {
-  const page = html.replace('<head>', () => FRAMED);
-  return page.includes('melzudek') ? page : page.replace('</body>', () => LISTENER);
-}
 
 function makeFrame(place, chosen) {
   let shown = '';
@@ -24,11 +12,11 @@ function makeFrame(place, chosen) {
   function tell() {
     if (line) latest()?.contentWindow?.postMessage({ melzudek: 'line', line }, '*');
   }
-  // (what a new page chooses by itself, before it is told the line, is not taken)
+  // (only what a person chooses there, who then is in the frame: a new page chooses a line by itself)
   addEventListener('message', ({ data: said, source }) => {
     const frame = latest();
-    const isTold = frame && performance.now() - frame.dataset.told > SETTLED;
-    if (said?.melzudek === 'chosen' && isTold && source === frame.contentWindow) chosen(said.line);
+    const isInside = frame && document.activeElement === frame && source === frame.contentWindow;
+    if (said?.melzudek === 'chosen' && isInside) chosen(said.line);
   });
   // The old page stays until the new one has been drawn.
   function put(html) {
@@ -39,12 +27,11 @@ function makeFrame(place, chosen) {
     frame.style.colorScheme = document.documentElement.style.colorScheme || 'light dark';
     frame.onload = () => {
       frame.classList.add('shown');
-      frame.dataset.told = performance.now();
       old.forEach((it) => it.remove());
       tell();
     };
     place.append(frame);
-    setTimeout(() => (frame.srcdoc = framed(html)), LAID_OUT);
+    setTimeout(() => (frame.srcdoc = html.replace('<head>', () => FRAMED)), LAID_OUT);
   }
   return {
     // A page is drawn once its place is seen and the typing rests.

@@ -184,6 +184,7 @@ function view(name) {
     const isOn = tab.dataset.view === name;
     tab.setAttribute('aria-selected', isOn);
     tab.tabIndex = isOn ? 0 : -1;
+    if (isOn) tab.scrollIntoView({ block: 'nearest', inline: 'nearest' });
     if (tab.dataset.view !== 'text') element(tab.dataset.view).hidden = !isOn;
   }
   document.body.dataset.view = name;

@@ -18,6 +18,8 @@ function makeSecond({ runs, section, current, choose, parted }) {
   let isWanted = false;
 
   element('kind').append(...Object.entries(KINDS).map(([kind, words]) => new Option(words, kind)));
+  const isKept = () => element('kept').checked;
+  element('kept').onchange = () => (showSlots(), ask(), sweepAgain());
   element('kind').onchange = () => (drawLines(), drawSweep());
   element('sweep').onclick = () => (sweeping ? stopSweep() : startSweep());
 
@@ -37,8 +39,13 @@ function makeSecond({ runs, section, current, choose, parted }) {
     least: ['Minimum of working sets', () => 0, () => Math.max(2 * first.most, 16), MOST_SET],
     most: ['Maximum of working sets', () => 1, () => Math.max(2 * first.most, 16), MOST_SET],
   };
+  // What is kept is the commit limit: a page frame less is a slot more, until slots are moved.
+  function slotsFor(frames) {
+    if (second.slots !== undefined) return second.slots;
+    return isKept() ? clamp(first.slots + first.frames - frames, 0, MOST_FRAMES) : first.slots;
+  }
   function valueOf(name) {
-    return second[name] ?? first[name];
+    return name === 'slots' ? slotsFor(valueOf('frames')) : second[name] ?? first[name];
   }
   function putSliders() {
     const rows = Object.entries(SLIDERS).map(([name, [words, from, to, top]]) => {
@@ -54,6 +61,16 @@ function makeSecond({ runs, section, current, choose, parted }) {
     });
     const again = make('button', { onclick: () => (reset(), update()) }, 'As the first');
     element('sliders').replaceChildren(...rows, again);
+    element('kept').disabled = second.slots !== undefined;
+  }
+  function showSlots() {
+    const value = slotsFor(valueOf('frames'));
+    for (const input of element('sliders').querySelectorAll('[data-name=slots]')) put(input, value);
+    element('kept').disabled = second.slots !== undefined;
+  }
+  function put(input, value) {
+    if (input.type === 'range') input.max = Math.max(Number(input.max), value);
+    if (Number(input.value) !== value) input.value = value;
   }
   element('sliders').addEventListener('input', ({ target }) => {
     const { name } = target.dataset;
@@ -63,20 +80,19 @@ function makeSecond({ runs, section, current, choose, parted }) {
   });
   function setTo(name, value) {
     second[name] = value;
-    for (const input of element('sliders').querySelectorAll(`[data-name=${name}]`)) {
-      if (input.type === 'range') input.max = Math.max(Number(input.max), value);
-      if (Number(input.value) !== value) input.value = value;
-    }
+    const inputs = element('sliders').querySelectorAll(`[data-name=${name}]`);
+    inputs.forEach((input) => put(input, value));
+    showSlots();
     ask();
-    drawSweep();
+    if (name === 'frames') drawSweep();
+    else sweepAgain();
   }
   function reset() {
     second = {};
     putSliders();
   }
-  function machine() {
-    const { least, most } = second;
-    return { frames: valueOf('frames'), slots: valueOf('slots'), least, most };
+  function machine(frames = valueOf('frames')) {
+    return { frames, slots: slotsFor(frames), least: second.least, most: second.most };
   }
 
   // ---- the comparison
@@ -89,6 +105,7 @@ function makeSecond({ runs, section, current, choose, parted }) {
       try {
         said = await runs.ask('compare', { machine: machine() });
         said.answers = linesOf(said.answers);
+        if (section.hidden) break;
         showParting();
         drawLines();
         showGained();
@@ -212,12 +229,19 @@ function makeSecond({ runs, section, current, choose, parted }) {
     const step = (to - from) / (count - 1);
     const wanted = [...Array(count).keys()].map((i) => Math.round(from + step * i));
     for (const frames of halving([...new Set(wanted)])) {
-      const point = await runs.ask('sums', { machine: { ...machine(), frames } }).catch(() => null);
+      const point = await runs.ask('sums', { machine: machine(frames) }).catch(() => null);
       if (sweeping !== mine) return;
       if (point && !point.status) sweep.push({ frames, ...point });
       drawSweep();
     }
     stopSweep();
+  }
+  // A sweep of other bounds is another curve.
+  function sweepAgain() {
+    if (current().answers.length <= SWEEP_AT_ONCE) return void startSweep();
+    stopSweep();
+    sweep = [];
+    drawSweep();
   }
   let sweepNumber = 0;
   function stopSweep() {
@@ -234,8 +258,7 @@ function makeSecond({ runs, section, current, choose, parted }) {
     if (before !== JSON.stringify(first)) reset();
     await ask();
     drawSweep();
-    if (current().answers.length <= SWEEP_AT_ONCE) startSweep();
-    else stopSweep();
+    sweepAgain();
   }
   return { update, machine, close: () => (stopSweep(), parted([])) };
 }

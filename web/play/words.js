@@ -14,6 +14,18 @@ const CALLS = {
   ResetWriteWatch: 'resetwatch',
   ExitProcess: 'exit',
 };
+// Other spellings of the calls, as mmnames takes them.
+const SPELLINGS = {
+  VirtualAllocEx: 'alloc',
+  VirtualFreeEx: 'free',
+  VirtualProtectEx: 'protect',
+  VirtualQueryEx: 'query',
+  CreateFileMappingA: 'create',
+  CreateFileMappingW: 'create',
+  OpenFileMappingA: 'open',
+  OpenFileMappingW: 'open',
+  MapViewOfFileEx: 'map',
+};
 const PAGE_NAMES = {
   PAGE_NOACCESS: 0x01,
   PAGE_READONLY: 0x02,
@@ -31,6 +43,7 @@ const NAMES = {
   page: PAGE_NAMES,
   section: { SEC_RESERVE: 0x4000000, SEC_COMMIT: 0x8000000 },
   view: { FILE_MAP_COPY: 1, FILE_MAP_WRITE: 2, FILE_MAP_READ: 4, FILE_MAP_ALL_ACCESS: 0xf001f },
+  watch: { WRITE_WATCH_FLAG_RESET: 1 },
   state: { MEM_COMMIT: 0x1000, MEM_RESERVE: 0x2000, MEM_FREE: 0x10000 },
   type: { MEM_PRIVATE: 0x20000, MEM_MAPPED: 0x40000 },
 };
@@ -43,6 +56,7 @@ const NAMES_OF = {
   create: { flags: ['page', 'section'] },
   createfile: { flags: ['page', 'section'] },
   map: { access: ['view'] },
+  watch: { flag: ['watch'] },
 };
 const ERRORS = {
   2: 'ERROR_FILE_NOT_FOUND',
@@ -82,7 +96,7 @@ const CALL_OF = Object.fromEntries(Object.entries(CALLS).map(([call, word]) => [
 const formsOf = (word) => data.help.forms[word] ?? [];
 const KEYWORDS = new Map([
   ...Object.keys(data.help.forms).map((word) => [word, word]),
-  ...Object.entries(CALLS).map(([call, word]) => [call.toLowerCase(), word]),
+  ...Object.entries({ ...CALLS, ...SPELLINGS }).map(([call, word]) => [call.toLowerCase(), word]),
 ]);
 const keywordOf = (word) => KEYWORDS.get(word.toLowerCase()) ?? null;
 
@@ -158,12 +172,9 @@ function scriptMode() {
   function token(stream, state) {
     if (stream.sol()) state.isBehind = false;
     if (stream.eatWhile(/[\s,()]/)) return null;
-    if (stream.peek() === '#') {
-      stream.skipToEnd();
-      return 'comment';
-    }
+    if (stream.match(/^(#|;|\/\/).*/)) return 'comment';
     if (stream.match(/^"[^"]*"?/)) return 'string';
-    if (stream.match(/^(0x[0-9A-Fa-f]+|\d+[kKmMgG]?)(?![\w])/)) return 'number';
+    if (stream.match(/^(0x[0-9A-F]+|\d+)([kmg]b?)?(?!\w)/i)) return 'number';
     const found = stream.match(word);
     if (found) return wordStyle(stream, state, found[0]);
     stream.match(/^[0-9A-Fa-f]+/) || stream.next();
@@ -191,15 +202,15 @@ function answerMode() {
 // ---- the place of the cursor: which word of which form
 function placeIn(line, column) {
   const before = line.slice(0, column);
-  if (/#/.test(before.replace(/"[^"]*"/g, ''))) return null;
+  if (/#|;|\/\//.test(before.replace(/"[^"]*"/g, ''))) return null;
   const words = before.split(/[\s,()]+/).filter((word, i, all) => word || i === all.length - 1);
   const first = (line.match(/[A-Za-z]+/) ?? [''])[0];
-  // (terms that + and | join are one argument)
+  // (terms that are joined by + | * << or - are one argument)
   let at = 0;
   let isJoined = false;
   for (const word of words.slice(1)) {
-    if (!isJoined && !/^[+|]/.test(word)) at += 1;
-    isJoined = /[+|]$/.test(word);
+    if (!isJoined && !/^([+|*]|<<|-$)/.test(word)) at += 1;
+    isJoined = /([+|*]|<<)$|^-$/.test(word);
   }
   const keyword = keywordOf(first);
   const [typed] = before.match(/[A-Za-z_][\w]*$/) ?? [''];
