@@ -19,7 +19,7 @@ from pathlib import Path
 
 from common import TOP, Check, begin, maybe, read, row, run, text
 
-ENDINGS = "mm out log check where tell part table csv svg txt answers".split()
+ENDINGS = "mm out log check where tell part table csv svg txt answers ipynb xz".split()
 SHOWN_LINES = 40
 
 

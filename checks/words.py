@@ -31,9 +31,6 @@ NO_FORMS: list[list[Word]] = [
     ["help", "where"],
     ["help", "talk"],
     ["help", "help"],
-    ["-h"],
-    ["--help"],
-    ["-V"],
     ["-"],
     ["--"],
     ["values"],
@@ -144,13 +141,52 @@ def main() -> int:
         usage = usages.get(name, "").encode() + b"\n"
         for words in NO_FORMS + OTHER[name]:
             got = run_words(check.programs[name], words, SCRIPT)
-            check.same(f"{name} {words!r:.200}", got, told_usage(name, usage))
+            if ASKING & set(words):
+                compare_asking(check, name, words, got)
+            else:
+                compare_usage(check, name, words, got, usage)
+        for word in sorted(ASKING):
+            got = run_words(check.programs[name], [word], SCRIPT)
+            compare_asking(check, name, [word], got)
     return check.end()
 
 
-def told_usage(name: str, usage: bytes) -> tuple[int, bytes, bytes, int]:
-    """What words that are no form come to; `mmnames` writes scripts, and this to standard error."""
-    return (2, b"", usage, 0) if name == "mmnames" else (2, usage, b"", 0)
+# One of these words, wherever it stands, asks for help or for the version.
+ASKING: set[Word] = {"-h", "--help", "-V", "--version"}
+
+
+def compare_asking(
+    check: Check, name: str, words: Sequence[Word], got: tuple[int, bytes, bytes, int]
+) -> None:
+    """Help and the version are written to standard output with status 0; nothing is read. Behind
+    words that are no form, what is wrong is written to standard error, with status 2."""
+    status, out, err, place = got
+    what = f"{name} {words!r:.200}"
+    if list(words) in (["-V"], ["--version"]):
+        check.same(what, got, (0, f"{name} 1.0\n".encode(), b"", 0))
+    elif status == 2:
+        check.same(what, (out, err[:7], place), (b"", b"error: ", 0))
+    else:
+        told = b"Usage: " in out or out == f"{name} 1.0\n".encode()
+        check.same(what, (status, told, err, place), (0, True, b"", 0))
+
+
+def compare_usage(
+    check: Check,
+    name: str,
+    words: Sequence[Word],
+    got: tuple[int, bytes, bytes, int],
+    usage: bytes,
+) -> None:
+    """Words that are no form: the usage line, status 2, and behind it on standard error what is
+    wrong, where clap says so; `mmnames` writes its usage to standard error, as it writes scripts.
+    """
+    status, out, err, place = got
+    if name == "mmnames":
+        said, out, err = out, err[: len(usage)], err[len(usage) :]
+        check.same(f"{name} {words!r:.200}: output", said, b"")
+    wrong = err[:7] if err else b"error: "
+    check.same(f"{name} {words!r:.200}", (status, out, wrong, place), (2, usage, b"error: ", 0))
 
 
 if __name__ == "__main__":

@@ -39,6 +39,13 @@ fn command<'a>(alloc: Global) -> Result<Command<'a>, NoMemory> {
     Ok(command)
 }
 
+/// Says what is wrong with words that are no form, where there is memory for it.
+fn explain(rt: &HostRuntime, alloc: Global, words: &[String]) {
+    if let Ok(command) = command(alloc) {
+        let _ = tell(rt, command, words);
+    }
+}
+
 /// Checks the log on standard input, and answers the status. The answer is flushed by then.
 fn check(rt: &HostRuntime) -> Result<u8, NoMemory> {
     let words = words(rt)?;
@@ -50,7 +57,7 @@ fn check(rt: &HostRuntime) -> Result<u8, NoMemory> {
     let mut out = StdSink::new(buffered(alloc, io::writer(rt))?);
     let status = run_log(alloc, &words, &mut source, &mut out);
     if status == USAGE {
-        tell(rt, command(alloc)?, &words)?;
+        explain(rt, alloc, &words);
     }
     Ok(status)
 }

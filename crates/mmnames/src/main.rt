@@ -37,6 +37,13 @@ fn command<'a>(alloc: Global) -> Result<Command<'a>, NoMemory> {
     Ok(command)
 }
 
+/// Says what is wrong with words that are no form, where there is memory for it.
+fn explain(rt: &HostRuntime, alloc: Global, words: &[String]) {
+    if let Ok(command) = command(alloc) {
+        let _ = tell(rt, command, words);
+    }
+}
+
 /// Translates standard input to standard output, and tells on standard error.
 fn translate(rt: &HostRuntime) -> Result<u8, NoMemory> {
     let words = words(rt)?;
@@ -49,7 +56,7 @@ fn translate(rt: &HostRuntime) -> Result<u8, NoMemory> {
     let mut err = StdSink::new(buffered(alloc, rt.stderr())?);
     let status = run_names(alloc, &words, &mut source, &mut out, &mut err);
     if status == USAGE {
-        tell(rt, command(alloc)?, &words)?;
+        explain(rt, alloc, &words);
     }
     Ok(status)
 }

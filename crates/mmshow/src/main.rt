@@ -125,6 +125,13 @@ fn texts() -> PageTexts<'static> {
     }
 }
 
+/// Says what is wrong with words that are no form, where there is memory for it.
+fn explain(rt: &HostRuntime, alloc: Global, words: &[String]) {
+    if let Ok(command) = command(alloc) {
+        let _ = tell(rt, command, words);
+    }
+}
+
 /// Shows the log on standard input, and answers the status. The text is flushed by then.
 fn show(rt: &HostRuntime) -> Result<u8, NoMemory> {
     let words = words(rt)?;
@@ -146,7 +153,7 @@ fn show(rt: &HostRuntime) -> Result<u8, NoMemory> {
         &mut out,
     );
     if status == USAGE {
-        tell(rt, command(alloc)?, &words)?;
+        explain(rt, alloc, &words);
     }
     Ok(status)
 }

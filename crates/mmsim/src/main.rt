@@ -52,6 +52,13 @@ fn device(alloc: Global) -> Result<MemBlocks, NoMemory> {
     MemBlocks::new(alloc, Vec::new(alloc), 0)
 }
 
+/// Says what is wrong with words that are no form, where there is memory for it.
+fn explain(rt: &HostRuntime, alloc: Global, words: &[String]) {
+    if let Ok(command) = command(alloc) {
+        let _ = tell(rt, command, words);
+    }
+}
+
 /// Runs the program's words on standard input and output; the moves are written to standard error.
 fn simulate(rt: &HostRuntime) -> Result<u8, NoMemory> {
     let words = words(rt)?;
@@ -74,7 +81,7 @@ fn simulate(rt: &HostRuntime) -> Result<u8, NoMemory> {
         &mut files,
     );
     if status == USAGE {
-        tell(rt, command(alloc)?, &words)?;
+        explain(rt, alloc, &words);
     }
     Ok(status)
 }
