@@ -130,7 +130,7 @@ def try_style(check: Check, lacking: Sequence[str]) -> None:
     if "black" in lacking:
         check.leave_out("black: Debian's package black is not there and cannot be installed")
     else:
-        words = ["--check", "--quiet", "--line-length", "100"]
+        words = ["--config", "pyproject.toml", "--check", "--quiet"]
         files = ["melzudek", "tests", str(Path(__file__).resolve())]
         check.step("black (`black -l 100` mends it)", ["-m", "black", *words, *files])
     if "mypy" in lacking:
