@@ -29,7 +29,7 @@ BEGINNINGS = {
     },
     **{"soft": "soft", "hard": "hard", "collided": "collided"},
 }
-# what columns of `mmshow faults csv` are called, by the group that they belong to
+# what columns of `mmshow faults` are called, by the group that they belong to
 COLUMNS = {
     **{"demand-zero": "zero", "demand-0": "zero", "zero": "zero"},
     **{"copy-on-write": "copy", "copy": "copy", "hard": "hard", "collided": "collided"},
@@ -48,7 +48,7 @@ def grouped(sums: Iterable[str]) -> dict[str, int]:
 
 
 def by_process(rows: Iterable[Mapping[str, str]]) -> dict[int, dict[str, int]]:
-    """The faults of each process from the rows of `mmshow faults csv`; rows of sums are left out."""
+    """The faults of each process from the rows of `mmshow faults`; rows of sums are left out."""
     found: dict[int, dict[str, int]] = {}
     for row in rows:
         if "all" in row.values() or not row["process"].isdecimal():

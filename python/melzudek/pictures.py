@@ -20,7 +20,7 @@ from typing import TYPE_CHECKING, Any
 from .costs import Costs, spelled
 from .errors import Mistake
 from .libraries import require
-from .observe import Observations
+from .observe import Observations, observe
 from .page_states import CODES, States, page_states
 from .tables import Run
 
@@ -299,7 +299,7 @@ def charge(rows: Any, title: str = "") -> Picture:
 def charge_table(rows: Any) -> Any:
     """Line, charge and limit from whatever has them."""
     if isinstance(rows, Run):
-        rows = rows.counts
+        rows = observe(rows.lines)
     if isinstance(rows, Observations):
         found = [(it.line, it.charged, it.limit) for it in rows.charges]
         if found:

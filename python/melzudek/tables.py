@@ -12,8 +12,8 @@ kept as it is.
 
 from __future__ import annotations
 
-import contextlib
 import html
+import io
 import os
 import shutil
 import subprocess
@@ -25,6 +25,7 @@ from typing import IO, Any
 
 from . import programs
 from .classes import fault_of, grouped
+from .columns import as_csv
 from .errors import Ended, Mistake
 from .libraries import require
 from .names import ERROR, STATUS
@@ -104,16 +105,13 @@ class Run:
 
     @cached_property
     def faults_by_page(self) -> Any:
-        """`mmshow faults csv`: the faults of each process and page."""
-        return self.told("faults", "csv")
+        """`mmshow faults`: the faults of each process and page."""
+        return self.listed("faults")
 
     @cached_property
     def counts(self) -> Any:
-        """`mmshow counts csv`: after each line the lists, working sets and the charge."""
-        for files in (self.texts, self.texts[1:]):  # the charge is in the answers
-            with contextlib.suppress(TooOld):
-                return self.told("counts", "csv", *files)
-        return self.told("counts", "csv")
+        """`mmshow counts`: after each line the lists of page frames, slots and requests."""
+        return self.listed("counts")
 
     @cached_property
     def totals(self) -> dict[str, int]:
@@ -177,6 +175,11 @@ class Run:
     def told(self, *words: str) -> Any:
         """The csv of a form of mmshow, as a table."""
         return pandas.read_csv(self.say(*words), keep_default_na=False, na_values=[""])
+
+    def listed(self, form: str) -> Any:
+        """A table that mmshow prints in columns."""
+        rows = as_csv(form, self.say(form).read().decode("ascii").splitlines())
+        return pandas.read_csv(io.StringIO("\n".join(rows)))
 
     def say(self, *words: str) -> IO[bytes]:
         """What mmshow writes for these words; Mistake or TooOld where it cannot."""

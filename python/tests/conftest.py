@@ -3,7 +3,6 @@
 from __future__ import annotations
 
 import os
-import subprocess
 import sys
 from pathlib import Path
 
@@ -15,21 +14,5 @@ os.environ["PYTHONPATH"] = os.pathsep.join(
 
 from hypothesis import settings  # noqa: E402
 
-from melzudek import programs  # noqa: E402  (the package beside the tests, as of here)
-
 settings.register_profile("plain", database=None)  # no folder of what was drawn is left behind
 settings.load_profile("plain")
-
-
-def has_events(mmshow: str) -> bool:
-    """Whether mmshow has the csv forms: its usage names them."""
-    said = subprocess.run([mmshow], stdin=subprocess.DEVNULL, capture_output=True, text=True)
-    return "events" in said.stdout
-
-
-def pytest_configure() -> None:
-    """An mmshow without the csv forms is given them by the independent reference of checks/."""
-    real = programs.find("mmshow")
-    if not has_events(real):
-        os.environ["FAKE_MMSHOW"] = real
-        os.environ["MELZUDEK_MMSHOW"] = str(Path(__file__).with_name("fake_mmshow"))

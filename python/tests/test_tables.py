@@ -139,7 +139,7 @@ def test_an_mmshow_that_is_too_old(tmp_path: Path, monkeypatch: pytest.MonkeyPat
     monkeypatch.setenv("MELZUDEK_MMSHOW", str(old))
     for name, form in (
         ("events", "events"),
-        ("counts", "counts csv"),
+        ("counts", "counts"),
         ("faults_by_page", "faults"),
     ):
         with pytest.raises(TooOld, match=f"this mmshow is too old, as it has no form `{form}"):
