@@ -83,7 +83,7 @@ def main() -> int:
     words = parser.parse_args()
     given = words.bin or os.environ.get("MELZUDEK_BIN")
     folder = os.path.abspath(given) if given else None
-    names = words.names or CHECKS + [name for name in FURTHER if file_of(name)]
+    names = words.names or CHECKS
     results = [run_check(name, folder) for name in names]
     passed = [it for it in results if it.is_passed]
     failed = [it.name for it in results if not it.is_passed]
