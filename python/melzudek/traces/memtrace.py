@@ -8,7 +8,8 @@ from .base import EXECUTE, READ, WRITE, LineByLine, Wrong
 
 
 class Memtrace(LineByLine):
-    """The threads of a process share its pages; a workload (`W1.T123`) is a process of its own.
+    """The threads of a process share its pages; a workload, written `W` and its number before the
+    thread, is a process of its own.
 
     A line is `RECORD INSTRUCTION: THREAD read 8 byte(s) @ 0x7f..`; markers, prefetches and the
     view's own head tell of no reference.
