@@ -24,9 +24,19 @@ impl FailList {
         self.calls = self.calls.saturating_add(1);
         let call = self.calls;
         if self.fails.iter().any(|fail| u64::from(*fail) == call) {
-            self.faults = self.faults.saturating_add(1);
+            self.count_fault();
             return true;
         }
         false
+    }
+
+    /// The device failed once more.
+    pub(crate) fn count_fault(&mut self)
+        ensures later { self.old.faults ≤ self.new.faults }
+        ensures rose { Rose self.old.faults self.new.faults }
+        ensures calls { self.new.calls ≡ self.old.calls }
+        ensures same_fails { self.new.fails ≡ self.old.fails }
+    {
+        self.faults = self.faults.saturating_add(1);
     }
 }

@@ -1,4 +1,4 @@
-ghost use Rattle.std.specs.Prelude.{◌≡◌, ◌≤◌, ◌<◌, ◌+◌, ◌++◌, ◌↔◌, [], ◌∷◌, Some, None, OnOk, OnErr, IfOk, IfSome, IfNone, IsErr, IsErrOf, length, replicate, slice_get, slice_set, vec_len, vec_capacity};
+ghost use Rattle.std.specs.Prelude.{◌≡◌, ◌≤◌, ◌<◌, ◌+◌, ◌++◌, ◌↔◌, ◌⊎◌, [], ◌∷◌, Some, None, OnOk, OnErr, IfOk, IfSome, IfNone, IsErr, IsErrOf, length, replicate, slice_get, slice_set, vec_len, vec_capacity};
 ghost use Rattle.mm_types.specs.{Loans, NoLoan};
 ghost use Rattle.mm_types.specs.declared.devices.Direction.TheVariants as way;
 ghost use Rattle.mm_types.specs.declared.faults.OpenFault.TheVariants as fault;
@@ -13,9 +13,10 @@ use mm_types::{Direction, Failed, NoMemory, OpenFault};
 use std::alloc::Global;
 
 /// Blocks in memory (own). Its calls are numbered from 1, `open` and `extend` too; those in a list
-/// fail, and none but out of memory in `open` and `extend`. It tells its log as long as at most so
-/// many reads and writes were made since `open` as it was made with room for. Reads and writes take
-/// no memory.
+/// fail, and none but out of memory in `open`, `extend` and `write`. A block takes memory of its own
+/// at its first write, so a block that holds other bytes than zeros is written without; a read takes
+/// none. It tells its log as long as at most so many reads and writes were made since `open` as it
+/// was made with room for.
 #[derive(Drop)]
 pub struct MemBlocks {
     blocks: Store,
@@ -70,6 +71,31 @@ impl MemBlocks {
         ensures { result ≡ length (⟦<MemBlocks as BlockDevice>⟧.blocks self.now) }
     {
         self.blocks.count()
+    }
+
+    /// Writes block i, counted from 0, and leaves the log as it is.
+    fn store(&mut self, i: u32, bytes: &[u8; 4096]) -> Result<(), Failed>
+        requires { i < length self.old.blocks }
+        ensures ok { OnOk result (self.new.blocks ≡ slice_set self.old.blocks i bytes.now) }
+        ensures err { OnErr result (self.new.blocks ≡ self.old.blocks) }
+        ensures cause { HasCallCause self.old.list.faults self.new.list.faults result }
+        ensures fails { NextFails self.old.list.fails.items self.old.list.calls → IsErr result }
+        ensures memory { IsErr result → NextFails self.old.list.fails.items self.old.list.calls ⊎
+            (slice_get self.old.blocks i ≡ Some empty_block) }
+        ensures calls { self.new.list.calls ≡ next_call self.old.list.calls }
+        ensures same_fails { self.new.list.fails ≡ self.old.list.fails }
+        ensures same_log { self.new.log ≡ self.old.log }
+    {
+        if self.list.next_fails() {
+            return Err(Failed);
+        }
+        match self.blocks.put(i, bytes) {
+            Ok(()) => Ok(()),
+            Err(NoMemory) => {
+                self.list.count_fault();
+                Err(Failed)
+            }
+        }
     }
 }
 
@@ -168,22 +194,20 @@ impl BlockDevice for MemBlocks {
             (made_call way.Write i result ∷ []) }
         ensures cause { HasCallCause self.old.list.faults self.new.list.faults result }
         ensures loans { NoLoan ≡ NoLoan }
-        ensures fails { IsErr result ↔ NextFails self.old.list.fails.items self.old.list.calls }
+        ensures fails { NextFails self.old.list.fails.items self.old.list.calls → IsErr result }
+        ensures memory { IsErr result → NextFails self.old.list.fails.items self.old.list.calls ⊎
+            (slice_get self.old.blocks i ≡ Some empty_block) }
         ensures calls { self.new.list.calls ≡ next_call self.old.list.calls }
         ensures same_fails { self.new.list.fails ≡ self.old.list.fails }
         ensures room { self.new.log.room ≡ self.old.log.room }
         ensures made { self.new.log.made ≡ next_call self.old.log.made }
     {
-        let fails = self.list.next_fails();
+        let outcome = self.store(i, bytes);
         self.log.note(DeviceCall {
             direction: Direction::Write,
             block: i,
-            succeeded: !fails,
+            succeeded: outcome.is_ok(),
         });
-        if fails {
-            return Err(Failed);
-        }
-        self.blocks.put(i, bytes);
-        Ok(())
+        outcome
     }
 }

@@ -1,4 +1,4 @@
-ghost use Rattle.std.specs.Prelude.{◌≡◌, ◌≤◌, ◌<◌, ◌+◌, ◌++◌, [], ◌∷◌, Some, OnOk, OnErr, length, replicate, slice_get, slice_set, vec_len, vec_capacity};
+ghost use Rattle.std.specs.Prelude.{◌≡◌, ◌≤◌, ◌<◌, ◌+◌, ◌++◌, [], None, Some, OnOk, OnErr, length, replicate, slice_get, slice_set, vec_len, vec_capacity};
 ghost use Rattle.mm_devices.specs.Traffic.{empty_block};
 
 use mm_types::NoMemory;
@@ -8,26 +8,21 @@ use std::marker::Model;
 /// What a block holds before its first write.
 static EMPTY: [u8; 4096] = [0; 4096];
 
-/// Blocks of which only those that were written take memory of their own.
-///
-/// Contracts see the list of all blocks' bytes. The written ones stand in the order of their first
-/// writes, in room for all blocks that is taken ahead and left unwritten, so the system maps it as
-/// it is first touched.
+/// Blocks of which only those that were written take memory of their own, each at its first write.
+/// Contracts see the list of all blocks' bytes.
 #[derive(Drop)]
 pub(crate) struct Store {
-    places: Vec<Option<u32>>,
-    pages: Vec<[u8; 4096]>,
+    blocks: Vec<Option<Box<[u8; 4096]>>>,
+    alloc: Global,
 }
 
 impl Model for Store {
-    ghost use Rattle.std.specs.Prelude.{List, ℕ, vec_capacity};
-    ghost use Rattle.mm_devices.specs.Stores.{blocks_of, IsStore};
+    ghost use Rattle.std.specs.Prelude.{List, ℕ, map};
+    ghost use Rattle.mm_devices.specs.Stores.{block_bytes};
 
     ghost Value = { List (List ℕ) };
 
-    ghost view = { λ s. blocks_of s.places.items s.pages.items };
-
-    ghost invariant = { λ s. IsStore s.places.items s.pages.items (vec_capacity s.pages) };
+    ghost view = { λ s. map block_bytes s.blocks.items };
 }
 
 impl Store {
@@ -36,8 +31,8 @@ impl Store {
         ensures { result ≡ [] }
     {
         Store {
-            places: Vec::new(alloc),
-            pages: Vec::new(alloc),
+            blocks: Vec::new(alloc),
+            alloc,
         }
     }
 
@@ -45,21 +40,16 @@ impl Store {
     pub(crate) fn count(&self) -> usize
         ensures { result ≡ length self.now }
     {
-        self.places.len()
+        self.blocks.len()
     }
 
-    /// n blocks of zeros more at the end. A place is a `u32`, so there is no memory for more blocks
-    /// than that.
+    /// n blocks of zeros more at the end. It takes no memory for what will be written to them.
     pub(crate) fn add(&mut self, n: u32) -> Result<(), NoMemory>
         ensures ok { OnOk result (self.new ≡ self.old ++ replicate n empty_block) }
         ensures err { OnErr result (self.new ≡ self.old) }
     {
-        let all = self.places.len() + n as usize;
-        if all > u32::MAX as usize {
-            return Err(NoMemory);
-        }
-        self.pages.reserve(all - self.pages.len())?;
-        self.places.resize(all, None)?;
+        self.blocks.reserve(n as usize)?;
+        push_unwritten(&mut self.blocks, n);
         Ok(())
     }
 
@@ -68,23 +58,35 @@ impl Store {
         requires { i < length self.now }
         ensures { slice_get self.now i ≡ Some result.now }
     {
-        match self.places[i as usize] {
-            Some(place) => &self.pages[place as usize],
+        match &self.blocks[i as usize] {
+            Some(bytes) => bytes,
             None => &EMPTY,
         }
     }
 
-    /// Block i, counted from 0, holds these bytes. It takes no memory.
-    pub(crate) fn put(&mut self, i: u32, bytes: &[u8; 4096])
+    /// Block i, counted from 0, holds these bytes. Its first write takes memory; after an error all
+    /// blocks are as before.
+    pub(crate) fn put(&mut self, i: u32, bytes: &[u8; 4096]) -> Result<(), NoMemory>
         requires { i < length self.old }
-        ensures { self.new ≡ slice_set self.old i bytes.now }
+        ensures ok { OnOk result (self.new ≡ slice_set self.old i bytes.now) }
+        ensures err { OnErr result (self.new ≡ self.old) }
+        ensures unwritten { OnErr result (slice_get self.old i ≡ Some empty_block) }
     {
-        match self.places[i as usize] {
-            Some(place) => self.pages[place as usize] = *bytes,
-            None => {
-                self.places[i as usize] = Some(self.pages.len() as u32);
-                self.pages.push_reserved(*bytes);
-            }
+        if let Some(held) = &mut self.blocks[i as usize] {
+            **held = *bytes;
+            return Ok(());
         }
+        self.blocks[i as usize] = Some(Box::new(self.alloc, *bytes)?);
+        Ok(())
+    }
+}
+
+/// Adds n blocks that were never written, in room that was taken before.
+fn push_unwritten(blocks: &mut Vec<Option<Box<[u8; 4096]>>>, n: u32)
+    requires { vec_len blocks.old + n ≤ vec_capacity blocks.old }
+    ensures { blocks.new.items ≡ blocks.old.items ++ replicate n None }
+{
+    for _ in 0..n {
+        blocks.push_reserved(None);
     }
 }
