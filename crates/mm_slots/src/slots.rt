@@ -1,4 +1,4 @@
-ghost use Rattle.std.specs.Prelude.{◌≡◌, ◌≢◌, ◌↔◌, ℕ, ◌+◌, ◌-◌, ◌^◌, ◌<◌, ◌≤◌, ◌++◌, Bool, true, false, length, replicate, Some, None, IfOk, OnOk, OnErr, IfSome, IfNone, slice_get, slice_set};
+ghost use Rattle.std.specs.Prelude.{◌≡◌, ◌↔◌, ℕ, ◌+◌, ◌-◌, ◌^◌, ◌<◌, ◌≤◌, ◌++◌, Bool, true, false, length, replicate, Some, None, IfOk, OnOk, OnErr, IfSome, IfNone, slice_get, slice_set};
 ghost use Rattle.mm_slots.specs.Slots.{SlotsOf, free_count, IsLowest};
 
 use crate::tree::{Level, Numbers, Word};
@@ -86,9 +86,7 @@ impl Slots {
         ensures lowest { IfSome result (λ s. IsLowest self.old.free s.0) }
         ensures taken { IfSome result (λ s. self.new
             ≡ record self.old { free = slice_set self.old.free s.0 false }) }
-        ensures none_free { IfNone result (free_count self.old.free ≡ 0) }
         ensures exact { (result ≡ None) ↔ (free_count self.old.free ≡ 0) }
-        ensures all_taken { IfNone result ((s : ℕ) → slice_get self.old.free s ≢ Some true) }
         ensures none { IfNone result (self.new ≡ self.old) }
     {
         if self.free == 0 {

@@ -1,6 +1,5 @@
-use Rattle.std.proofs.Common.{◌≡◌, sym, ap, ◌∙◌}
-use Rattle.mm_slots.specs.{SlotsOf, free_count, have_bit}
-use Rattle.mm_slots.proofs.{some_free, counted_some, slot_taken, lowest_slot, shown_changed}
+use Rattle.mm_slots.specs.{have_bit}
+use Rattle.mm_slots.proofs.{some_free, slot_taken, lowest_slot, shown_changed}
 use Rattle.mm_slots.proofs.slots.Slots.take.Goals as goal
 
 pub lowest-slot-requires : goal.lowest-slot-requires
@@ -14,9 +13,3 @@ returns-clause-lowest c = lowest_slot (have_bit c.self.inside.tree.words.items) 
 
 pub returns-clause-taken : goal.returns-clause-taken
 returns-clause-taken c = shown_changed _ _ _ _ _ _ c.args.self.now c.self.view_is c.remove.ensures.removed
-
-pub returns-then-self-eq0-clause-all_taken : goal.returns-then-self-eq0-clause-all_taken
-returns-then-self-eq0-clause-all_taken c = λ s e.
-    let none : free_count c.args.self.now.free ≡ 0 =
-    ap (λ (v : SlotsOf). free_count v.free) (sym c.self.view_is) ∙ sym c.self.invariant.count ∙ c.if-self-eq0.true in
-    counted_some c.args.self.now.free s e none
