@@ -25,6 +25,8 @@ from typing import Iterator, NamedTuple, Optional, Sequence, Union
 
 TOP = Path(__file__).resolve().parent.parent
 PROGRAMS = ("mmsim", "mmlog", "mmshow", "mmnames")
+# Those and the one that checks alone run.
+ALL_PROGRAMS = (*PROGRAMS, "mmunpaged")
 # How many complaints a check prints; the others are only counted.
 PRINTED = int(os.environ.get("MELZUDEK_PRINTED", "20"))
 
@@ -189,14 +191,14 @@ class Check:
 
 
 def find_programs(folder: Optional[str], files: Sequence[str]) -> dict[str, str]:
-    """Where the four programs are: those of the gate, of a folder, or files by their names."""
-    found = {name: str(TOP / "crates" / name / "out" / name) for name in PROGRAMS}
+    """Where the programs are: those of the gate, of a folder, or files by their names."""
+    found = {name: str(TOP / "crates" / name / "out" / name) for name in ALL_PROGRAMS}
     if folder:
-        found = {name: os.path.join(os.path.abspath(folder), name) for name in PROGRAMS}
+        found = {name: os.path.join(os.path.abspath(folder), name) for name in ALL_PROGRAMS}
     for file in files:
         stem = re.match(r"[a-z]*", os.path.basename(file))
-        if not stem or stem[0] not in PROGRAMS:
-            sys.exit(f"{file}: a program's file name begins with one of {', '.join(PROGRAMS)}")
+        if not stem or stem[0] not in ALL_PROGRAMS:
+            sys.exit(f"{file}: a program's file name begins with one of {', '.join(ALL_PROGRAMS)}")
         found[stem[0]] = os.path.abspath(file)
     return found
 

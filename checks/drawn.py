@@ -5,8 +5,10 @@
 
 The seed is the day's, and printed; --seed makes a run again. Sixty scripts of 5,000 lines are drawn
 for machines from ample to short of page frames. `mmsim` runs each, and checks/reference/unpaged.py,
-a model without paging, gives the answers. In four scripts of five no device fails. `mmlog check`
-takes each log, and counts as checks/reference/life.py does, a replay in Python; so does `mmlog
+a model without paging, gives the answers. In four scripts of five no device fails: of these the
+lines but those of threads, which wait where pages are read, are run by `mmunpaged` too, whose pages
+never leave memory, and each answer that does not tell of paging is the same. `mmlog check` takes
+each log, and counts as checks/reference/life.py does, a replay in Python; so does `mmlog
 where`. Then each log is cut or spoiled in one line, 40 times, and both refuse it alike.
 """
 
@@ -24,6 +26,7 @@ import zlib
 from typing import Any, Callable, NamedTuple, Optional
 
 from common import TOP, begin, run
+from stores import first_difference, without_threads
 
 sys.path.insert(0, str(TOP / "checks/reference"))
 sys.dont_write_bytecode = True
@@ -42,6 +45,7 @@ class Task(NamedTuple):
 
     mmsim: str
     mmlog: str
+    mmunpaged: str
     seed: int
     lines: int
 
@@ -391,6 +395,9 @@ def compare(task: Task) -> Result:
     wrong = compare_answers(name, lines, ended.out.decode().splitlines())
     if ended.status:
         wrong.append(f"{name}: ends with status {ended.status}: {ended.out[-80:]!r}")
+    if task.seed % 5:
+        differs = first_difference(task.mmsim, task.mmunpaged, without_threads(lines))
+        wrong += [f"{name}: without threads, {differs}"] if differs else []
     others, spoils = compare_log(task, name, ended.err)
     return Result(len(lines), ended.err.count(b"\n"), spoils, wrong + others)
 
@@ -401,13 +408,13 @@ def main() -> int:
     parser.add_argument("--seed", type=int, default=today, help="the day's, as 20261231")
     parser.add_argument("--scripts", type=int, default=60, help="how many scripts")
     parser.add_argument("--lines", type=int, default=5000, help="the lines of each")
-    check = begin(__doc__, ("mmsim", "mmlog"), parser)
+    check = begin(__doc__, ("mmsim", "mmlog", "mmunpaged"), parser)
     words = check.words
     print(f"drawn: seed {words.seed} (again: python3 checks/drawn.py --seed {words.seed})")
     first = zlib.crc32(str(words.seed).encode()) * 1000
     programs = check.programs
     tasks = [
-        Task(programs["mmsim"], programs["mmlog"], first + at, words.lines)
+        Task(*(programs[it] for it in ("mmsim", "mmlog", "mmunpaged")), first + at, words.lines)
         for at in range(words.scripts)
     ]
     moves = spoils = 0

@@ -4,7 +4,8 @@
 tests/rows/README.md says what the files are. Of each row: status, answers, the log or a part of it
 where it is stored; `mmlog check` takes the log, and a second run gives the same bytes. Each example
 is a row too. The stored answers are also those of checks/reference/unpaged.py, a model without
-paging, so each row is answered by a store that pages and by one that does not. Then lines that
+paging, and, but for what tells of paging, of `mmunpaged`, the proved world over pages that never
+leave memory: so each row is answered by a store that pages and by one that does not. Then lines that
 are refused, with the columns of their faults; lines that are read, on a machine with processes,
 regions and sections, with their answers; logs that no run writes; and generated scripts, whose
 lines checks/reference/bulk.py draws from the seed.
@@ -18,6 +19,7 @@ import sys
 from concurrent.futures import ThreadPoolExecutor
 
 from common import TOP, Check, Row, begin, maybe, read, rows_of, run, table
+from stores import first_difference, without_threads
 
 sys.path.insert(0, str(TOP / "checks/reference"))
 sys.dont_write_bytecode = True
@@ -55,6 +57,17 @@ def compare_unpaged(check: Check, row: Row) -> None:
         wanted = world.answer(line.removesuffix("\r"), answer)
         if not check.same(f"{row.name}: `{line}` without paging", wanted, answer):
             return
+
+
+def compare_stores(check: Check, row: Row) -> None:
+    """The answers of both stores, up to a bad line, to the lines that are of no thread."""
+    answers = row.answers.decode().splitlines()
+    bad = [at for at, it in enumerate(answers) if it.startswith(("bad line", "too long line"))]
+    lines = row.script.decode("latin-1").split("\n")[: (bad or [len(answers)])[0]]
+    if lines and not any(line.startswith("fail ") for line in lines):
+        programs = check.programs["mmsim"], check.programs["mmunpaged"]
+        differs = first_difference(*programs, without_threads(lines))
+        check.holds(f"{row.name}: stores", differs is None, differs or "")
 
 
 def compare_logs(check: Check) -> None:
@@ -129,11 +142,11 @@ def four_lines(answers: list[str]) -> str:
 
 
 def main() -> int:
-    check = begin(__doc__, ("mmsim", "mmlog"))
+    check = begin(__doc__, ("mmsim", "mmlog", "mmunpaged"))
     with ThreadPoolExecutor(os.cpu_count()) as pool:
         tasks = [pool.submit(compare_generated, check)]
         for row in rows_of("tests/rows", "examples"):
-            tasks.append(pool.submit(compare_row, check, row))
+            tasks += [pool.submit(it, check, row) for it in (compare_row, compare_stores)]
         tasks += [pool.submit(it, check) for it in (compare_logs, compare_faults, compare_lines)]
         for row in rows_of("tests/rows", "examples"):
             compare_unpaged(check, row)

@@ -22,7 +22,7 @@ from concurrent.futures import ThreadPoolExecutor, as_completed
 from pathlib import Path
 from typing import Callable, NamedTuple
 
-from common import PROGRAMS, TOP, begin
+from common import ALL_PROGRAMS, PROGRAMS, TOP, begin
 
 # What makes a check quicker where it would look at much, and checks that read the crates.
 QUICK = {
@@ -57,7 +57,7 @@ class Room:
         for words in (["init", "-q"], ["add", "-A"]) if is_whole else ():
             subprocess.run(["git", *words], cwd=self.top, check=True)
         self.real = programs
-        for name in PROGRAMS:
+        for name in ALL_PROGRAMS:
             (self.bin / name).symlink_to(programs[name])
 
     def edit(self, path: str, old: str, new: str) -> None:
@@ -212,6 +212,8 @@ SPOILS = [
           piped("mmsim", "run", "s/^error 1455$/error 487/"), "error 487, not error 1455"),
     Spoil("drawn", "an mmlog that tells another line",
           piped("mmlog", "check", "s/^no line .*1$/no line 1/"), "spoil"),
+    Spoil("drawn", "an mmunpaged that chooses another address",
+          stub("mmunpaged", '"$real" | sed "s/^ok 0x00010000/ok 0x00020000/"'), "unpaged ok"),
     Spoil("drawn", "an mmlog that counts one soft fault more",
           piped("mmlog", "check", "s/^soft \\(.*\\)$/soft 1\\1/"), "mmlog"),
     Spoil("show", "an mmshow without the form sums",

@@ -15,6 +15,8 @@ mod failing;
 #[cfg(test)]
 mod flights;
 #[cfg(test)]
+mod full;
+#[cfg(test)]
 mod gaps;
 #[cfg(test)]
 mod lines;
@@ -23,7 +25,7 @@ mod logs;
 #[cfg(test)]
 mod moves;
 #[cfg(test)]
-mod rows;
+mod ranges;
 #[cfg(test)]
 mod streams;
 #[cfg(test)]
