@@ -10,16 +10,9 @@ ghost use Rattle.mm_types.specs.declared.moves.Move.TheVariants as move;
 ghost use Rattle.mm_pager.specs.{Went, InQuietFrame, Soils, FindsNone, Frees, Readies, MayReadIn, MayUse, HasFullSet, MayFault, GivesFrame, Brings};
 ghost use Rattle.mm_pager.specs.{FailsToBring, PutsAtPlace, Faulted, FaultsToWrite};
 
-use mm_reclaim::{NoFrame, find_frame};
+use mm_reclaim::{NoFrame, find_frame, is_starved};
 use mm_state_calls::StateCalls;
 use mm_types::{Frame, Held, Key, PageFault, Place, Record, Request};
-
-/// Whether no frame can be taken at once.
-pub(crate) fn is_starved<T: StateCalls>(state: &T) -> bool
-    ensures { result ≡ is_short (T.shown state.now).life }
-{
-    state.no_zeroed() && state.no_free() && state.no_standby()
-}
 
 /// Sees that there is a frame to be taken, beside a pinned one.
 pub(crate) fn find<T: StateCalls>(state: &mut T, pinned: Option<Frame>) -> Result<(), PageFault>
@@ -38,7 +31,7 @@ pub(crate) fn find<T: StateCalls>(state: &mut T, pinned: Option<Frame>) -> Resul
         return Ok(());
     }
     match find_frame(state, pinned) {
-        Ok(_) => Ok(()),
+        Ok(()) => Ok(()),
         Err(NoFrame) => Err(PageFault::NoFrame),
     }
 }

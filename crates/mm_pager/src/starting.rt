@@ -10,8 +10,9 @@ ghost use Rattle.mm_store.specs.declared.outcomes.Start.TheVariants as start_of;
 ghost use Rattle.mm_pager.specs.{ready_at, MayUse, AccessBegun, IsBeingRead, answered, ready_after};
 
 use crate::completing::is_reading;
-use crate::faults::{assign, free_frame, is_starved, put};
+use crate::faults::{assign, free_frame, put};
 use crate::pager::Wanted;
+use mm_reclaim::is_starved;
 use mm_state_calls::StateCalls;
 use mm_store::{Need, Start};
 use mm_types::{Frame, Held, Key, Place, Tid, Why};

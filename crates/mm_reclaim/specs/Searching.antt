@@ -3,18 +3,9 @@
 use Rattle.std.specs.Prelude.{◌≡◌, Bool, true, false}
 use Rattle.mm_types.specs.{Frame, Place}
 use Rattle.mm_types.specs.declared.moves.Move.TheVariants as move
-use Rattle.mm_move_rules.specs.{is_on, is_empty, FrameLife, is_short}
+use Rattle.mm_move_rules.specs.{is_on, is_short}
 use Rattle.mm_state_calls.specs.{StateOf, Made, moved}
-use Rattle.mm_reclaim.specs.declared.searching.Found.{Found}
-use Rattle.mm_reclaim.specs.declared.searching.Found.TheVariants as found
 use Rattle.mm_reclaim.specs.Seeking.{Tried}
-
--- the first of the lists that has a frame
-abbrev pub IsFirstList : Found → FrameLife → Type 0
-IsFirstList found.Zeroed l = is_empty l.frames.zeroed ≡ false
-IsFirstList found.Free l = (is_empty l.frames.zeroed ≡ true) × (is_empty l.frames.free ≡ false)
-IsFirstList found.Standby l = (is_empty l.frames.zeroed ≡ true) ×
-    ((is_empty l.frames.free ≡ true) × (is_empty l.frames.standby ≡ false))
 
 -- after the unmap the lists have a frame, or the place's own frame is not modified, or it is and is
 -- tried

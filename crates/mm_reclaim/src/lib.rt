@@ -9,5 +9,5 @@ mod seeking;
 
 pub use choosing::victim;
 pub use chores::{trim, write_out, zero};
-pub use searching::{Found, NoFrame, find_frame};
+pub use searching::{NoFrame, find_frame, is_starved};
 pub use seeking::try_frame;

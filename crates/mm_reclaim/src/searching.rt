@@ -1,10 +1,10 @@
-ghost use Rattle.std.specs.Prelude.{◌≡◌, ◌≤◌, ◌<◌, ◌&&◌, ◌==◌, not, is_some, is_ok, IfOk, length, option_map, slice_get, true, false, Some, None};
+ghost use Rattle.std.specs.Prelude.{◌≡◌, ◌≤◌, ◌<◌, ◌&&◌, ◌==◌, not, is_some, is_ok, length, option_map, slice_get, true, false, Some, None};
 ghost use Rattle.std.specs.Bool.{OnTrue, OnFalse};
 ghost use Rattle.mm_types.specs.{Frame};
 ghost use Rattle.mm_move_rules.specs.{record_at, is_on, has_request, is_access, is_short as lists_are_empty, may_go as goes};
 ghost use Rattle.mm_state_calls.specs.{Searched};
 ghost use Rattle.mm_reclaim.specs.Seeking.{IsUnderWay, Seeking, writable_modified};
-ghost use Rattle.mm_reclaim.specs.Searching.{IsFirstList, TookVictim};
+ghost use Rattle.mm_reclaim.specs.Searching.{TookVictim};
 
 use crate::choosing::victim;
 use crate::seeking::{try_frame, write_frame};
@@ -16,16 +16,8 @@ use mm_types::{Frame, Place, Record, Request};
 #[derive(Clone, Copy)]
 pub struct NoFrame;
 
-/// Which list has a frame: the first of these that is not empty.
-#[derive(Clone, Copy)]
-pub enum Found {
-    Zeroed,
-    Free,
-    Standby,
-}
-
-/// Whether zeroed, free and standby are empty.
-fn is_short<T: StateCalls>(state: &T) -> bool
+/// Whether no frame can be taken at once: zeroed, free and standby are empty.
+pub fn is_starved<T: StateCalls>(state: &T) -> bool
     ensures { result ≡ lists_are_empty (T.shown state.now).life }
 {
     state.no_zeroed() && state.no_free() && state.no_standby()
@@ -121,7 +113,7 @@ fn turn<T: StateCalls>(state: &mut T, place: Place, f: Frame) -> bool
     ensures loans { T.loans state.new ≡ T.loans state.old }
 {
     state.unmap(place);
-    if !is_short(state) {
+    if !is_starved(state) {
         return true;
     }
     if !is_modified(state, f) {
@@ -142,20 +134,6 @@ fn frame_of<T: StateCalls>(state: &T, pinned: Option<Frame>, place: Place) -> Fr
     }
 }
 
-/// The first list that has a frame.
-fn first_list<T: StateCalls>(state: &T) -> Found
-    requires { lists_are_empty (T.shown state.now).life ≡ false }
-    ensures { IsFirstList result (T.shown state.now).life }
-{
-    if !state.no_zeroed() {
-        return Found::Zeroed;
-    }
-    if !state.no_free() {
-        return Found::Free;
-    }
-    Found::Standby
-}
-
 /// The modified list and then pages are gone through until there is a frame.
 fn search<T: StateCalls>(state: &mut T, pinned: Option<Frame>) -> bool
     requires begun { IsUnderWay (T.shown state.old) }
@@ -164,7 +142,7 @@ fn search<T: StateCalls>(state: &mut T, pinned: Option<Frame>) -> bool
     ensures searched { Searched pinned result (T.shown state.old) (T.shown state.new) }
     ensures loans { T.loans state.new ≡ T.loans state.old }
 {
-    if !is_short(state) {
+    if !is_starved(state) {
         return true;
     }
     if walk(state, pinned) {
@@ -184,24 +162,24 @@ fn search<T: StateCalls>(state: &mut T, pinned: Option<Frame>) -> bool
 }
 
 /// A frame for a page, in a plain access without a request of its own: afterwards zeroed, free or
-/// standby has one, and the answer says which. Else each modified frame that can be written was
-/// tried, and no page may go but those of the pinned frame.
+/// standby has one. Else each modified frame that can be written was tried, and no page may go but
+/// those of the pinned frame.
 ///
 /// The modified frames that can be written are, from the first on, until a write succeeds; then
 /// pages go, the oldest of the first process each time, and a frame that this leaves modified is
-/// written where it can be. Takes no memory.
-pub fn find_frame<T: StateCalls>(state: &mut T, pinned: Option<Frame>) -> Result<Found, NoFrame>
+/// written where it can be. It takes no memory itself.
+pub fn find_frame<T: StateCalls>(state: &mut T, pinned: Option<Frame>) -> Result<(), NoFrame>
     requires access { is_access (T.shown state.old).life.kind ≡ true }
     requires few { length (T.shown state.old).life.flight ≤ (T.shown state.old).life.machine.depth }
     requires pinned { (f : Frame) → pinned ≡ Some f →
         1 ≤ (record_at (T.shown state.old).life.frames f.0).shares }
     requires done { (T.shown state.old).own ≡ None }
     ensures searched { Searched pinned (is_ok result) (T.shown state.old) (T.shown state.new) }
-    ensures first { IfOk result (λ found. IsFirstList found (T.shown state.new).life) }
     ensures loans { T.loans state.new ≡ T.loans state.old }
 {
-    if !search(state, pinned) {
-        return Err(NoFrame);
+    if search(state, pinned) {
+        Ok(())
+    } else {
+        Err(NoFrame)
     }
-    Ok(first_list(state))
 }

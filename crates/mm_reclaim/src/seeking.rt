@@ -41,7 +41,7 @@ pub(crate) fn write_frame<T: StateCalls>(state: &mut T, f: Frame) -> bool
 }
 
 /// A modified frame is written where it can be, in a plain access: to its block, or to the lowest
-/// free slot. Answers whether it was written, and so stands on standby. Takes no memory.
+/// free slot. Answers whether it was written, and so stands on standby. Takes no memory itself.
 #[tactic(auto, using(crate::proofs::Writing::can_write))]
 pub fn try_frame<T: StateCalls>(state: &mut T, f: Frame) -> bool
     requires begun { IsUnderWay (T.shown state.old) }

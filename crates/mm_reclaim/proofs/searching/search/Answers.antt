@@ -2,8 +2,8 @@ use Rattle.std.proofs.Common.{sym, ◌∙◌, arith}
 use Rattle.mm_reclaim.proofs.{found_at_once, turn_fewer, turn_on, turn_found, search_starves}
 use Rattle.mm_reclaim.proofs.searching.search.Goals as goal
 
-pub returns-then-not-is_short-clause-searched : goal.returns-then-not-is_short-clause-searched
-returns-then-not-is_short-clause-searched g c = found_at_once c.args.pinned (g.T.StateCalls.shown c.args.state.now) (sym c.is_short.ensures ∙ c.if-not-is_short.true)
+pub returns-then-not-is_starved-clause-searched : goal.returns-then-not-is_starved-clause-searched
+returns-then-not-is_starved-clause-searched g c = found_at_once c.args.pinned (g.T.StateCalls.shown c.args.state.now) (sym c.is_starved.ensures ∙ c.if-not-is_starved.true)
 
 pub returns-in-None-clause-searched : goal.returns-in-None-clause-searched
 returns-in-None-clause-searched g c = search_starves c.args.pinned (g.T.StateCalls.shown c.args.state.now) (g.T.StateCalls.shown c.turns.state) (g.met.T.StateCalls.holds c.args.state.now) c.turns.invariant.seeking c.in-None.ensures
