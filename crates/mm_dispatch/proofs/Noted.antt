@@ -1,23 +1,23 @@
 -- What a line noted, and what its function ensures of tables and store, is the promise of a world over them.
-use Rattle.std.proofs.Common.{◌≡◌, ℕ, ◌+◌, List, [], ◌∷◌, Bool, true, false, Option, Some, None, refl, sym, ap, ◌∙◌, subst, cond, is_some, not, inl, inr, ◌≤◌, arith}
-use Rattle.std.specs.Prelude.{◌⊎◌, Result, Ok, Err, OnOk, OnErr}
+use Rattle.std.proofs.Common.{◌≡◌, ℕ, ◌+◌, List, [], ◌∷◌, Bool, true, false, Option, Some, None, refl, sym, ap, ◌∙◌, subst, cond, is_some, not, inl, inr, ◌≤◌, ◌<◌, ◌^◌, length, arith}
+use Rattle.std.specs.Prelude.{◌⊎◌, Result, Ok, Err, OnOk, OnErr, option_map, unwrap_or}
 use Rattle.std.proofs.lemmas.Bool.{cond_both}
 use Rattle.mm_types.specs.{Answer, Event, LineKind, Move, Key, MachineOf}
 use Rattle.mm_move_rules.specs.{FrameLife, is_live, is_dead, after_at, Replays}
-use Rattle.mm_world.specs.{Page, KeptOf, content_of, is_file_key, kept_by, Tables, world_with, charge, limit}
+use Rattle.mm_world.specs.{Page, ProcessOf, process_of, process_with, KeptOf, content_of, is_file_key, kept_by, Tables, world_with, charge, limit}
 use Rattle.mm_world.specs.World.{World}
 use Rattle.mm_types.proofs.{parts, some_found}
 use Rattle.mm_store.specs.{StoreOf, PagingStands, StandsIn}
 use Rattle.mm_store.specs.Behind.{Behind}
 use Rattle.mm_line_moves.specs.{kind_of_line, made_process, kind_of_growth, kept_kind, lives, Agrees, TurnsKeys, HoldsBeside, LineNoted, Broken, Line}
-use Rattle.mm_object_tables.specs.{FitsTables, key_bytes, is_paging, IsTidy}
+use Rattle.mm_object_tables.specs.{FitsTables, MadeAtMost, key_bytes, is_paging, IsTidy}
 use Rattle.mm_dispatch.specs.{KeepsTables, is_later, IsOneWay, IsCutLine, Marked, MarkedIn, Halted, HaltedIn, Decided, Idle, EndsWaits, Scene, StaysSound}
 use Rattle.mm_dispatch.specs.{NotesMoves, Decides, Breaks, scene_of, AskedBeside}
 use Rattle.mm_dispatch.proofs.Alike.{live-with, row_key-with, block_of-with}
 use Rattle.mm_dispatch.proofs.Marking.{keys_made, keys_gone, none_made}
 use Rattle.mm_world.specs.Report.{Report}
 use Rattle.mm_world.proofs.{tables_back}
-use Rattle.mm_dispatch.proofs.With.{charge-with}
+use Rattle.mm_dispatch.proofs.With.{charge-with, process-with}
 use Rattle.mm_dispatch.proofs.Readiness.{idle_in}
 use Rattle.mm_types.specs.declared.answers.Answer.TheVariants as answer
 use Rattle.mm_types.specs.declared.events.Event.TheVariants as event
@@ -202,6 +202,16 @@ waits_with t bytes (event.Exit pid) a after h = h
 waits_with t bytes (event.Resume tid) a after h = h
 waits_with t bytes _ a after h = tt
 
+-- a million lines make fewer handles than there are numbers of 32 bits
+few_handles : (t : Tables) (bytes : Key → Page) (n : ℕ) → n ≤ 1000000 → MadeAtMost n t → (pid : ℕ) (p : ProcessOf Page) → process_of (world_with t bytes) pid ≡ Some p → length p.handles < 2 ^ 32
+few_handles t bytes n few made pid p e = by (process_of t pid) refl
+  where
+    by : (o : Option (ProcessOf (Unit {0}))) → process_of t pid ≡ o → length p.handles < 2 ^ 32
+    by None q = (let no : None ≡ Some p = sym (process-with bytes t pid ∙ ap (option_map (process_with bytes pid)) q) ∙ e in cc)
+    by (Some r) q =
+        let is : Some (process_with bytes pid r) ≡ Some p = sym (process-with bytes t pid ∙ ap (option_map (process_with bytes pid)) q) ∙ e in
+        omega (arith, few, made.handles pid r q, ap (λ (o : Option (ProcessOf Page)). length (unwrap_or o (process_with bytes pid r)).handles) is)
+
 module _ (u : Bool) (n : ℕ) (t : Tables) (old : Key → Option Page) (s : StoreOf) (b : Behind) (after : Tables) (new : Key → Option Page) (z : StoreOf) (c : Behind) where
   abbrev before : Scene
   before = scene_of t old s b
@@ -225,8 +235,8 @@ module _ (u : Bool) (n : ℕ) (t : Tables) (old : Key → Option Page) (s : Stor
     unwaited = λ never tid. idle_in u new z c h.stands_after never tid;
   }
 
-  pub decides : (e : Event) (a : Answer) → FitsTables t old s → Standing → Decided u e n t old s a after new z → EndsWaits t e a z.report → (u ≡ false → AskedBeside t.blocks_used e a s.paging_device z.paging_device s.file_device z.file_device s.file_blocks z.file_blocks × HoldsBeside (world_with t (key_bytes old)) e a b.slots c.slots s.file_blocks z.file_blocks) → MarkedIn u e n t old s b a after new z c → Decides u before e a behind
-  decides e a fits h d waits beside marked =
+  pub decides : (e : Event) (a : Answer) → n ≤ 1000000 → FitsTables t old s → Standing → Decided u e n t old s a after new z → EndsWaits t e a z.report → (u ≡ false → AskedBeside t.blocks_used e a s.paging_device z.paging_device s.file_device z.file_device s.file_blocks z.file_blocks × HoldsBeside (world_with t (key_bytes old)) e a b.slots c.slots s.file_blocks z.file_blocks) → MarkedIn u e n t old s b a after new z c → Decides u before e a behind
+  decides e a few fits h d waits beside marked =
       let p = piece_in u before e a behind (λ paging. line-noted u e n t old s b a after new z c paging h.next fits d.keeps h.stands h.stands_after (beside paging).1 marked) in
       record {
         stepped = d.stepped;
@@ -239,6 +249,7 @@ module _ (u : Bool) (n : ℕ) (t : Tables) (old : Key → Option Page) (s : Stor
           d.keeps.fits,
           d.flushed,
           waits_with t (key_bytes old) e a z.report waits,
+          few_handles after (key_bytes new) n few (subst (λ (k : ℕ). MadeAtMost k after) d.line_is d.keeps.few),
           p.line,
         );
       }

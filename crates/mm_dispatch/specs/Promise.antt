@@ -1,10 +1,10 @@
 -- The promise of a world over a store: what it shows, and what one line does to that.
 -- Profile, "A run".
-use Rattle.std.specs.Prelude.{◌≡◌, ◌≤◌, ◌⊎◌, ℕ, Bool, false, true, List, Option, length}
+use Rattle.std.specs.Prelude.{◌≡◌, ◌≤◌, ◌<◌, ◌^◌, ◌⊎◌, ℕ, Bool, false, true, List, Option, Some, length}
 use Rattle.mm_types.specs.{Answer, Event, Move, Key}
 use Rattle.mm_types.specs.declared.answers.Wait.TheVariants as wait
 use Rattle.mm_move_rules.specs.{Grew, AreMoves, spelled_moves, Replays}
-use Rattle.mm_world.specs.{Page, charge, limit, Tables, tables_of, world_with}
+use Rattle.mm_world.specs.{Page, ProcessOf, process_of, charge, limit, Tables, tables_of, world_with}
 use Rattle.mm_world.specs.World.{World}
 use Rattle.mm_world.specs.Report.{Report}
 use Rattle.mm_devices.specs.{DeviceOf}
@@ -82,6 +82,9 @@ pub record ToldBeside (never_fails : Bool) (s : Scene) (e : Event) (a : Answer) 
   pub flushed : FlushServed z.world z.blocks e a
   -- threads whose access or whose process ends wait no more
   pub waits : EndsWaits s.world e a z.report
+  -- a process has fewer handles than there are numbers of 32 bits
+  pub handles : (pid : ℕ) (p : ProcessOf Page) → process_of z.world pid ≡ Some p →
+      length p.handles < 2 ^ 32
   -- the moves are one `at` with the line's number and kind, and what its form allows
   pub line : never_fails ≡ false →
       Line s.world s.report s.behind s.paging s.files s.blocks e a moves

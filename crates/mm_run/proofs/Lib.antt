@@ -22,6 +22,7 @@ pub mod FormWords
 pub mod WrittenPages
 pub mod WatchLines
 pub mod WatchesTold
+pub mod StagesStand
 mod Pairs
 pub use Ends.{accounted, accounted_behind, accounted_memory, blamed_beside, blamed_end, blamed_open}
 pub use Ends.{came_usage}
@@ -46,3 +47,4 @@ pub use Drawn.{script_whole, slice_few, slice_later}
 pub use Tallies.{accounted_unflushed, all_told, all_torn, ran_failed, ran_unflushed}
 pub use FormWords.{bulk_same, form_said, no_numbers, no_run, one_bulk, says_none, two_items}
 pub use WatchesTold.{watches_told}
+pub use StagesStand.{one_log_of_runs, stages_stand}

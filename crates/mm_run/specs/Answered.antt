@@ -7,10 +7,11 @@ use Rattle.mm_move_rules.specs.{IsFrontOf}
 use Rattle.mm_io.specs.{FitsLine}
 use Rattle.mm_script.specs.{IsLine as IsLineFor}
 use Rattle.mm_devices.specs.{NamedMade}
+use Rattle.mm_line_moves.specs.{AnsweredAlike}
 use Rattle.mm_dispatch.specs.{IsFailure}
 use Rattle.mm_run.specs.Reading.{reading_of}
 use Rattle.mm_run.specs.Scenes.{Stage, Running, HasNoted, Follows, log_of}
-use Rattle.mm_run.specs.Steps.{IsDecided}
+use Rattle.mm_run.specs.Steps.{IsDecided, SameWorld}
 use Rattle.mm_run.specs.Written.{AnsweredLine}
 
 -- A line that was decided: its text without the line feed, its event, its answer, its moves, and
@@ -67,6 +68,15 @@ HoldMovesOf (l ∷ ls) bytes = IsFrontOf (log_of l.after).bytes bytes × HoldMov
 pub record IsMuted (n : ℕ) (old : Stage) (l : DecidedLine) : Type 0 where
   pub next : IsNext n old l
   pub failed : (log_of l.after).failed ≡ true
+
+-- Two runs went on from the same stage by the same line, with the same answer and world; where it
+-- is a `flush`, over devices that answered alike.
+pub record GoesAlike (l m : DecidedLine) : Type 0 where
+  pub before : l.before ≡ m.before
+  pub event : l.event ≡ m.event
+  pub answer : l.answer ≡ m.answer
+  pub world : SameWorld l.after m.after
+  pub devices : AnsweredAlike l.event l.moves m.moves
 
 -- ---- failures
 

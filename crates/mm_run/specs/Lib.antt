@@ -21,10 +21,10 @@ pub use Reading.{is_machine_word, reading_of}
 pub use Scenes.{Follows, HasNoted, NotBegun, Outset, Running, Stage, log_of, outset, replay_of}
 pub use Scenes.{with_flush}
 pub use Steps.{BreaksLine, DecidesLine, HoldsUnchanged, IsDecided, MachineBegins, MachineIsMade}
-pub use Steps.{Moved, NoneFailed, StageNotes, StageStepped, tells_paging}
+pub use Steps.{Moved, NoneFailed, SameWorld, StageNotes, StageStands, StageStepped, tells_paging}
 pub use Written.{AnsweredLine, GivesWritten, WriteMarks, keeps_after, no_write_marks}
 pub use Written.{write_marks_after, write_marks_over}
-pub use Answered.{AreAnswered, AreFaultless, DecidedLine, HoldMovesOf, IsNext, MadeNamed}
+pub use Answered.{AreAnswered, AreFaultless, DecidedLine, GoesAlike, HoldMovesOf, IsNext, MadeNamed}
 pub use Answered.{answered_lines, answers_in, last_stage, moves_of, texts_of}
 pub use Texts.{IsFront, IsFrontWithin, ToldText, TornText, WroteText, last_text, most_kept}
 pub use Texts.{status_of}

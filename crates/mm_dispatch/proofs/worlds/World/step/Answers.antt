@@ -10,7 +10,7 @@ returns-clause-decided g c =
     at-ok d.result (λ x q.
     decides p.unpaged c.args.line w.tables (p.contents w.pages) (p.store w.pages) (p.behind w.pages)
     d.new.t (p.contents d.new.g) (p.store d.new.g) (p.behind d.new.g)
-    c.args.event.now d.new.answer (w.fits c.requires.ready)
+    c.args.event.now d.new.answer c.requires.few (w.fits c.requires.ready)
     (assumption (c.requires, c.sound.ensures, c.sound-2.ensures, c.sound-3.ensures))
     (rw q at d.ensures.done).decided (rw q at d.ensures.waits) (λ paging. rw q at (d.ensures.beside paging)) (rw q at d.ensures.done).marked)
 
