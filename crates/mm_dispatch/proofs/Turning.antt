@@ -5,23 +5,26 @@ use Rattle.mm_types.specs.{Answer, Why, Move, Key, Pid, Place, Access, page_of}
 use Rattle.mm_types.proofs.{same_found}
 use Rattle.mm_move_rules.specs.{FrameLife, is_thread, Replays, Waiting, Idle, Walk, walked_all, Through, waits_through, ages_through, is_read_move}
 use Rattle.mm_move_rules.specs.{is_wrote_move, takes_frame}
-use Rattle.mm_world.specs.{Page, BeingRead, Attempt, access_of, Tables, world_with, Need, pending, need_at}
+use Rattle.mm_world.specs.{Page, BeingRead, Attempt, access, access_of, done, OutcomeOf, Tables, world_with, Need, pending, need_at}
 use Rattle.mm_world.specs.Report.{Report}
 use Rattle.mm_store.specs.{StoreOf, changed, PassesIn, StandsIn, Aim, AccessMove, Starts, walk_from, place_at, waits_at_once, IsReady, started}
 use Rattle.mm_store.specs.{Ghosts as PageStoreGhosts}
 use Rattle.mm_store.specs.Behind.{Behind}
 use Rattle.mm_store.proofs.{passes_then, waits_then, ages_then, accesses_then}
-use Rattle.mm_line_moves.specs.{place_had, is_write}
+use Rattle.mm_line_moves.specs.{is_failed, place_had, is_write}
 use Rattle.mm_dispatch.specs.{AnswersAccess, Answered, MadeBy, WaitsBy, Admits, Accessed, Refuses, AccessDone, ReadyFor, TurnsAccess, aim_for, row_need}
-use Rattle.mm_dispatch.specs.{TurnedBy, KeepsOver, PassesOver, aim_over, world_over}
+use Rattle.mm_dispatch.specs.{IsFailure, TurnedBy, KeepsOver, PassesOver, aim_over, world_over}
 use Rattle.mm_dispatch.proofs.Begun.{passes_as, passes_still}
 use Rattle.mm_dispatch.proofs.AccessForms.{count-then, idle_through, kind-through, restarted, thread-walk}
+use Rattle.mm_dispatch.proofs.AccessLines.{fine_access}
 use Rattle.mm_world.specs.World.{World}
 use Rattle.mm_object_tables.specs.{CommittedRow, key_bytes}
 use Rattle.mm_dispatch.proofs.AccessForms.{aim-needs, aim-needless}
 use Rattle.mm_dispatch.proofs.Accesses.{needs-of, need-key}
 use Rattle.mm_dispatch.proofs.Waiting.{served_started, went}
+use Rattle.mm_types.specs.declared.answers.Answer.TheVariants as answer
 use Rattle.mm_types.specs.declared.answers.Why.TheVariants as why_of
+use Rattle.mm_types.specs.declared.codes.Raise.TheVariants as raise
 use Rattle.mm_types.specs.declared.moves.LineKind.TheVariants as kind
 use Rattle.mm_store.specs.declared.outcomes.Start.TheVariants as start
 use Rattle.mm_dispatch.specs.declared.threads.Threaded.TheVariants as threaded
@@ -33,6 +36,14 @@ in_thread false c s b pid h k e = ap is_thread (h.kind ∙ k)
 
 -- ---- an access was ready, and is made
 
+-- what an access answers that is made is no failure
+fine_answer : (a : Answer) → (IsFailure a → ⊥) → is_failed a ≡ false
+fine_answer (answer.Raised raise.InPageError) h = absurd (h tt)
+fine_answer a h = refl
+
+not_failed : (w : World) (pid addr : ℕ) (what : Attempt) (a : Answer) (v : World) → access w pid addr what ≡ done a v → is_failed a ≡ false
+not_failed w pid addr what a v e = fine_answer a (λ f. (fine_access w pid addr what).it.fine (subst (λ (o : OutcomeOf Page). IsFailure o.answer) (sym e) f))
+
 pub record Begun (a : Aim) (tid : ℕ) (b : Behind) (moves : List Move) (c : Behind) : Type 0 where
   pub starts : Starts a tid start.Ready b moves c
   pub thread : is_thread b.life.kind ≡ true
@@ -41,7 +52,7 @@ pub record Followed (aim : Option Aim) (Ready : Type 0) (r : Answer) (after : Re
   pub answered : Answered aim Ready r after b moves c
   pub replays : Replays moves b.life c.life
 
-module _ (aim later : Option Aim) (a : Aim) (is : aim ≡ Some a) (l : FrameLife) (again : later ≡ Some (record a { start = l })) (tid : ℕ) (Ready : Type 0) (ready : Ready) (r : Answer) (after : Report) where
+module _ (aim later : Option Aim) (a : Aim) (is : aim ≡ Some a) (l : FrameLife) (again : later ≡ Some (record a { start = l })) (tid : ℕ) (Ready : Type 0) (ready : Ready) (r : Answer) (fine : is_failed r ≡ false) (after : Report) where
   abbrev second : Aim
   second = record a { start = l }
 
@@ -67,6 +78,7 @@ module _ (aim later : Option Aim) (a : Aim) (is : aim ≡ Some a) (l : FrameLife
           one_read = omega (arith, reads, none, one);
           few_writes = omega (arith, wrote, takes, first_few, second_few);
         };
+        fine = fine;
         valid = answers.valid;
         ages =
             answers.ages
@@ -153,14 +165,12 @@ module _ {G : Type 0} (p : PageStoreGhosts G) (what : Attempt) (tid : ℕ) (pid 
         let again = aim-needs (world_over p after h) (p.behind h).life pid addr what need (needs-of after (key_bytes (p.contents h)) pid addr what kind row is r.can.admitted) in
         let accessed : Accessed p.unpaged w pid.0 addr what (p.store h) (p.store k) a (world_over p end k) =
         subst (λ (x : World). Accessed p.unpaged x pid.0 addr what (p.store h) (p.store k) a (world_over p end k)) (λ i. world_with (same i) (key_bytes (r.contents i))) d.accessed in
+        let made = went p.unpaged t.machine.depth w pid.0 addr what need (p.store g) (p.store h) (p.store k) a (world_over p end k) (needs r.admitted)
+        (ap (λ (key : Key). waits_at_once t.machine.depth key (p.store g).report) (need-key kind row place) ∙ r.at_once) r.store (d.had r.ready) accessed in
         record {
-          turned = (
-            r.fine,
-            went p.unpaged t.machine.depth w pid.0 addr what need (p.store g) (p.store h) (p.store k) a (world_over p end k) (needs r.admitted)
-                (ap (λ (key : Key). waits_at_once t.machine.depth key (p.store g).report) (need-key kind row place) ∙ r.at_once) r.store (d.had r.ready) accessed,
-          );
+          turned = (r.fine, made);
           keeps = d.keeps;
           rest = record { line = d.line ∙ ap (λ (s : StoreOf). s.line) r.store; unpaged = λ never why is. cc; loans = loans ∙ r.loans };
-          passes = started_made (aim_over p t g pid addr what) (aim_over p after h pid addr what) (aim_for p place need (is_write what) g) (aims r.admitted) (p.behind h).life again tid (IsReady (p.store h) place need) r.ready a (p.store k).report
+          passes = started_made (aim_over p t g pid addr what) (aim_over p after h pid addr what) (aim_for p place need (is_write what) g) (aims r.admitted) (p.behind h).life again tid (IsReady (p.store h) place need) r.ready a (not_failed w pid.0 addr what a (world_over p end k) made.outcome) (p.store k).report
               p.unpaged (p.store g) (p.store h) (p.store k) (p.behind g) (p.behind h) (p.behind k) r.thread (r.passes (is_write what)) d.passes;
         }

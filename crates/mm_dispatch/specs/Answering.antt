@@ -42,12 +42,13 @@ pub record Answered (aim : Option Aim) (IsReady : Type 0) (r : Answer) (after : 
 
 -- ---- an access of a thread
 
--- it was made, and the thread waits for nothing
+-- it was made, which answers no failure, and the thread waits for nothing
 pub record MadeBy (aim : Option Aim) (tid : ℕ) (r : Answer) (b : Behind) (moves : List Move)
     (c : Behind) : Type 0 where
   pub aimed : Aim
   pub is : aim ≡ Some aimed
   pub made : AccessMoves aimed b moves
+  pub fine : is_failed r ≡ false
   pub valid : is_had r ≡ true → is_valid c.life aimed.place ≡ true
   pub ages : c.ages ≡ place_had (Some aimed) r (ages_through moves b.ages)
   pub waits : c.waits ≡ changed ◌==◌ (waits_through moves b.waits) tid Idle

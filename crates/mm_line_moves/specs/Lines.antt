@@ -71,10 +71,12 @@ is_pending_read (answer.Pending why.Read) = true
 is_pending_read _ = false
 
 -- what it leaves: a place that was had is valid; one that found no frame leaves hardly a place
--- valid; one that waits for a read has its page being read
+-- valid; one that waits for a read has its page being read. A thread whose read failed while it
+-- waited makes no move
 pub record Accesses (plain : Bool) (a : Aim) (r : Answer) (after : Report) (b : Behind)
     (moves : List Move) (c : Behind) : Type 0 where
   pub made : AccessMoves a b moves
+  pub still : plain ≡ false → is_failed r ≡ true → moves ≡ []
   pub valid : is_had r ≡ true → is_valid c.life a.place ≡ true
   pub awaited : is_pending_read r ≡ true → after.whereabouts a.need.key ≡ Some BeingRead
   pub starved : plain ≡ true → is_failed r ≡ true → after.last_failed_read ≡ None →

@@ -76,6 +76,28 @@ copy_of_page = record {
   start = life_after 9 copied_log;
 }
 
+-- a thread waited for a file's page, whose read has failed, and goes on
+abbrev pub resumed_log : List Move
+resumed_log =
+    move.At 1 (kind.Machine 6 0 1 4)
+    ∷ move.At 2 (kind.Process (pid 1) 0 4)
+    ∷ move.At 3 kind.Call
+    ∷ move.Add (shared 0 0) (Some (record { 0 = 0 }))
+    ∷ move.At 4 (kind.Thread (pid 1))
+    ∷ move.Read (record { 0 = 0 }) (shared 0 0)
+    ∷ move.At 5 kind.Io
+    ∷ move.Bad (record { 0 = 0 })
+    ∷ move.At 6 (kind.Thread (pid 1))
+    ∷ []
+
+abbrev pub page_awaited : Aim
+page_awaited = record {
+  place = place 1 16;
+  need = touch (shared 0 0);
+  writes = false;
+  start = life_after 9 resumed_log;
+}
+
 -- a section of two pages, and one page of a process beside it
 abbrev pub section_log : List Move
 section_log =

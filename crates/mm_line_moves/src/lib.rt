@@ -7,6 +7,6 @@ mod worked;
 
 pub use laws::lines_have_one_log;
 pub use worked::{
-    copied_page_soiled, full_set, page_flushed, page_written_out, pages_given_up, pages_made,
-    same_page_again, sections_given_up, soft_fault,
+    copied_page_soiled, failed_read_resumed, full_set, page_flushed, page_written_out,
+    pages_given_up, pages_made, same_page_again, sections_given_up, soft_fault,
 };

@@ -9,6 +9,11 @@ ghost use Rattle.mm_line_moves.specs.{changed_page, page_written_to, shared, sec
 ghost use Rattle.std.specs.Prelude.{is_some, ◌++◌, take};
 ghost use Rattle.mm_move_rules.specs.{replay_log};
 ghost use Rattle.mm_line_moves.specs.{same_page, copied_log, copy_of_page};
+ghost use Rattle.mm_types.specs.declared.answers.Answer.TheVariants as answer;
+ghost use Rattle.mm_types.specs.declared.codes.Raise.TheVariants as raise;
+ghost use Rattle.mm_world.specs.Report.{Report};
+ghost use Rattle.mm_store.specs.Behind.{Behind};
+ghost use Rattle.mm_line_moves.specs.{Accesses, page_awaited, resumed_log};
 ghost use Rattle.mm_line_moves.specs.{behind_page, before_all, with_sections};
 
 /// The page that was trimmed is written to the lowest slot; its write, completed, is a call of the
@@ -119,4 +124,14 @@ pub fn copied_page_soiled()
         (move.Clear (frame 1) ∷ move.Add (private 1 16) None ∷
         move.Give (frame 1) (private 1 16) ∷ move.Unmap (place 1 16) ∷
         move.Map (frame 1) (place 1 16) ∷ []) }
+{}
+
+/// A thread whose read failed while it waited begins no other when it is resumed, though the move
+/// would be legal.
+pub fn failed_read_resumed()
+    ensures never { (after : Report) (c : Behind) →
+        Accesses false page_awaited (answer.Raised raise.InPageError) after
+        (behind_after 9 resumed_log) (move.Read (frame 1) (shared 0 0) ∷ []) c → ⊥ }
+    ensures legal { is_some (replay_log (resumed_log ++
+        (move.Read (frame 1) (shared 0 0) ∷ []))) ≡ true }
 {}
