@@ -85,7 +85,9 @@ class Sources:
     def read(self, path: str) -> None:
         """Notes what a file declares."""
         crate = re.match(r"crates/(\w+)/(?:src|specs|proofs|must-fail)/(.*)", path)
-        is_tool = re.match(r"(tools|checks|web|python)/|\.ci/", path) and not path.endswith((".png", ".xz", ".wasm"))
+        is_tool = re.match(r"(tools|checks|web|python)/|\.ci/", path) and not path.endswith(
+            (".png", ".xz", ".wasm")
+        )
         if crate:
             read = text(path)
             names = self.declared[crate[1]]
