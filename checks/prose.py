@@ -85,7 +85,9 @@ class Sources:
     def read(self, path: str) -> None:
         """Notes what a file declares."""
         crate = re.match(r"crates/(\w+)/(?:src|specs|proofs|must-fail)/(.*)", path)
-        is_tool = re.match(r"(tools|checks|web|python)/|\.ci/", path) and not path.endswith((".png", ".xz", ".wasm"))
+        is_tool = re.match(r"(tools|checks|web|python)/|\.ci/", path) and not path.endswith(
+            (".png", ".xz", ".wasm")
+        )
         if crate:
             read = text(path)
             names = self.declared[crate[1]]
@@ -247,7 +249,7 @@ def compare_crates(check: Check, sources: Sources, document: str) -> None:
     """The table of crates, with those right below each, and the map."""
     rows: dict[str, list[str]] = {}
     for line in text(document).splitlines():
-        row = re.match(r"\| `(mm\w+)` \| .*? \| ((?:[`*]\w+[`*](?:, )?)+|nothing) \| ", line)
+        row = re.match(r"\| `(mm\w+)` \| .*? \| ((?:[`*]\w+[`*](?:, )?)+|nothing) \|", line)
         if row and (row[1] in sources.below or "TODO-LEAD" not in line):
             rows[row[1]] = re.findall(r"\w+", row[2].replace("nothing", ""))
     chart = next((it["body"] for it in BLOCK.finditer(text(document)) if "mm_" in it["body"]), "")

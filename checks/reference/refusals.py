@@ -1,7 +1,7 @@
 """Why a move is not legal, in words: the first part of its condition that fails.
 
 The conditions are those of docs/PROFILE.md, "Logs of moves". Their order and their words are those
-of the table in crates/mm_sentences/README.md. The replay itself, life.py, is not asked: where a
+of the table in checks/reference/README.md. The replay itself, life.py, is not asked: where a
 move has no reason here, it has to be legal there.
 """
 
