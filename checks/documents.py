@@ -194,9 +194,7 @@ def compare_script(check: Check, block: Block, following: Optional[Block] = None
     return False
 
 
-def compare_plain(
-    check: Check, block: Block, files: list[str], following: Optional[Block]
-) -> bool:
+def compare_plain(check: Check, block: Block, files: list[str], following: Optional[Block]) -> bool:
     """A block by itself: a script, or a part of a stored file. Whether the next one belongs to it."""
     if block.body.startswith("machine "):
         return compare_script(check, block, following)
@@ -367,9 +365,11 @@ def compare_made(copy: Copy, document: str) -> None:
     """Paragraphs whose numbers a command makes again."""
     for command, paragraph in MADE.findall(text(document)):
         said = copy.run(document, command)
-        words = said.split()
-        numbers = paragraph.replace(",", "")
-        lost = [it for it in words if it.replace(",", "") not in numbers]
+        words = [it.replace(",", "") for it in said.split()]
+        plain = paragraph.replace(",", "")
+        lost = [
+            it for it in words if not re.search(rf"(?<![\w.]){re.escape(it)}(?!\w|\.\d)", plain)
+        ]
         copy.check.holds(document, bool(words) and not lost, f"`{command}` prints {said[:200]!r}")
 
 

@@ -244,7 +244,7 @@ SPOILS = [
     Spoil("documents", "what is said of a mistake",
           edited(f"{GUIDE}/1-first-steps.md", "is 'read' meant?", "is 'raed' meant?"), "is wrong"),
     Spoil("documents", "a line of a numbered script",
-          edited(f"{GUIDE}/4-paging.md", "13  begin 0 1 read", "13  begin 0 1 exec"), "numbered"),
+          edited(f"{GUIDE}/4-paging.md", "16  write 1 0x16000", "16  write 1 0x17000"), "numbered"),
     Spoil("documents", "a sentence of a part of a file",
           edited(f"{GUIDE}/4-paging.md", "soft fault: s0.0 is", "soft fault: s0.1 is"), "is no part"),
     Spoil("documents", "a block without tag or mark",
