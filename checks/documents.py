@@ -225,6 +225,9 @@ class Copy:
                 shutil.copy2(TOP / name, Path(folder) / name)
         for git in (["init", "-q"], ["add", "-A"]):
             subprocess.run(["git", *git], cwd=folder, check=True)
+        # what tools/build has compiled here of the same sources it takes there too
+        if (TOP / "out/try/bin").is_dir():
+            shutil.copytree(TOP / "out/try/bin", Path(folder) / "out/try/bin")
         self.path = os.environ.get("PATH", "")
         for program, built in check.programs.items():
             out = Path(folder) / "crates" / program / "out"
@@ -278,8 +281,10 @@ class Copy:
 
 
 def beside(name: str) -> str:
-    """A script's lines beside their answers, as tools/try prints them."""
-    script, answers = text(f"examples/{name}.mm"), text(f"examples/{name}.out")
+    """A plain script's lines beside their answers, as tools/try prints them."""
+    script, answers = file_or_nothing(f"examples/{name}.mm"), file_or_nothing(
+        f"examples/{name}.out"
+    )
     pairs = zip(script.splitlines(), answers.splitlines())
     return "".join(f"{line:<38}  {answer}\n" for line, answer in pairs)
 
@@ -304,15 +309,15 @@ def file_or_nothing(path: str) -> str:
 def expected(command: str, copy: Copy) -> list[str]:
     """What a command may write to standard output: what is stored of its example, else nothing."""
     found: list[str] = []
-    if command.startswith("tools/try "):
-        found.append(tried(copy.check, command.split()[1:]))
-    if re.search(r"rt try --cases \S+", command):
-        found.append(tried_cases(Path(copy.folder) / "out/cases"))
     kept = re.search(r"< \S*?([a-z-]+)\.mm .*2> (\S+)", command)
     if kept:
         copy.logs[kept[2]] = kept[1]
     if SILENT.search(command):
         return [""]
+    if command.startswith("tools/try "):
+        found.append(tried(copy.check, command.split()[1:]))
+    if re.search(r"rt try --cases \S+", command):
+        found.append(tried_cases(Path(copy.folder) / "out/cases"))
     where = re.search(r"where (\S+) < \S*?([a-z-]+)\.log", command)
     if where:
         rows = file_or_nothing(f"examples/{where[2]}.where").splitlines()
