@@ -203,6 +203,8 @@ SPOILS = [
           edited("tests/windows/README.md", "| 31 | 22 | 9 |", "| 31 | 23 | 8 |"), "does not say"),
     Spoil("windows", "a row that differs and is told nowhere",
           edited("docs/WINDOWS.md", "`unmap-middle`", "`unmap-twice`"), "unmap"),
+    Spoil("windows", "a sum of the document",
+          edited("docs/WINDOWS.md", "184 agree", "185 agree"), "does not say `184 agree`"),
     Spoil("hostile", "an mmsim whose faults end with status 0",
           stub("mmsim", '"$real" "$@"\ns=$?\n[ $s -ne 3 ] || exit 0\nexit $s'), "byte"),
     Spoil("hostile", "an mmsim that fails no read",

@@ -125,6 +125,14 @@ def compare_document(check: Check, files: dict[str, list[Fact]]) -> None:
             if check.holds(name, name in places, f"{DOCUMENT} names it, and no row has the name"):
                 named.add(name)
                 compare_line(check, line, places[name][1])
+    differ = sum(fact.verdict != "agrees" for _, fact in places.values())
+    whole = " ".join(text(DOCUMENT).split())
+    for told in (
+        f"{len(places)} facts",
+        f"{len(places) - differ} agree",
+        f"The {differ} that differ",
+    ):
+        check.holds(DOCUMENT, told in whole, f"does not say `{told}`")
     for name, (_, fact) in places.items():
         if fact.verdict != "agrees":
             check.holds(name, name in named, f"differs, and {DOCUMENT} does not tell it")
