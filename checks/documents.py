@@ -7,15 +7,20 @@ README.md, CONTRIBUTING.md and each page below docs/. Every block is one of thes
                        programs on the path. What they write to standard output is the block
                        `text` right behind, else the stored answers, log or table of the example
                        that they run, else nothing. Left out: the gate and what proves (PROVES).
-    ```text FILE       a part of that file, `..` for lines left out; of a script all lines, numbered
-    ```text, ```       a script beside its answers, which is run; a script; or a part of a stored
-                       file of examples/ or tests/
+    ```text FILE       a part of that file, `..` for lines left out; of a script the lines have
+                       their numbers
+    ```text, ```       a script, as people write it or plain. It is run, and an answer is beside its
+                       line, or below it behind four spaces. A script that `mmnames` refuses has
+                       what `mmnames` says as the next block. Or a part of a stored file of
+                       examples/ or tests/
     ```c, ```python    code, which is not compared
 
 A block that is none of these has a mark in the line before: <!-- not run: WHY -->. A paragraph
 behind <!-- made by: COMMAND --> has each word that the command prints, so its numbers are made
 again. A file that a command writes and that has the name of one in examples/ is that file. Nothing
 that the commands write shows in `git status`. Links lead to files and headings that are there.
+A paragraph `Contents: ..` links each heading of the second level in order; the parts of the guide
+and docs/PROFILE.md have one, and docs/GUIDE.md links each part. Pages keep to their sizes (LIMITS).
 With --quick nothing is compiled: commands that call the kit are left out.
 """
 
@@ -87,6 +92,18 @@ def blocks_of(document: str) -> list[Block]:
     return blocks
 
 
+class Near(NamedTuple):
+    """A block with the one right before it, and the next one."""
+
+    block: Block
+    before: Optional[Block]
+    following: Optional[Block]
+
+    @property
+    def right_behind(self) -> Optional[Block]:
+        return self.following if self.block.is_followed else None
+
+
 # Parts of files, and scripts
 
 
@@ -111,7 +128,8 @@ def compare_part(check: Check, block: Block) -> None:
     if not (TOP / path).is_file():
         check.wrong(block.place, f"{path} is no file")
     elif path.endswith(".mm"):
-        is_so = block.body in (numbered(text(path)), text(path))
+        whole = numbered(text(path))
+        is_so = is_part(block.body, whole) or block.body == text(path)
         check.holds(block.place, is_so, f"the block of {path} is not the script, numbered")
     else:
         check.holds(block.place, is_part(block.body, text(path)), f"is no part of {path}")
@@ -129,34 +147,63 @@ def stored() -> list[str]:
     return found
 
 
-def compare_script(check: Check, block: Block) -> None:
-    """A script, alone, beside its answers, or beside its log, some of whose moves have no line."""
-    columns = re.search(r"^machine .*? {2,}(?=\S)", block.body)
-    width = len(columns[0]) if columns else 300
-    pairs = [(line[:width].rstrip(), line[width:]) for line in block.body.splitlines()]
-    script = "".join(line + "\n" for line, _ in pairs if line)
-    beside = [shown for _, shown in pairs]
-    ended = check.run("mmsim", ["run"], script.encode())
+class Sides(NamedTuple):
+    """A block with a script: its lines, what is shown beside or below each, and whether any is."""
+
+    script: list[str]
+    shown: list[str]
+    has_answers: bool
+
+
+def sides(body: str) -> Sides:
+    """The script of a block and its answers: in a column, or below a line behind four spaces."""
+    lines = body.splitlines()
+    column = re.search(r"^machine .*? {2,}(?=\S)", body)
+    width = len(column[0]) if column else 300
+    script: list[str] = []
+    shown: list[str] = []
+    for at, line in enumerate(lines):
+        is_below = column is not None and line.startswith("    ")
+        if is_below and shown:
+            shown[-1] = line.strip()
+            continue
+        is_long = column is not None and "".join(lines[at + 1 : at + 2]).startswith("    ")
+        script.append(line if is_long else line[:width].rstrip())
+        shown.append("" if is_long else line[width:])
+    return Sides(script, shown, column is not None)
+
+
+def compare_script(check: Check, block: Block, following: Optional[Block] = None) -> bool:
+    """A script, as it is written or plain. Whether the next block has what is wrong with it."""
+    found = sides(block.body)
+    written = "".join(line + "\n" for line in found.script).encode()
+    named = check.run("mmnames", ["lines"], written)
+    if named.status == 3 and following is not None and following.info in ([], ["text"]):
+        told = check.run("mmnames", [], written).err.decode()
+        return check.same(f"{block.place}: what is wrong", following.body, told) or True
+    ended = check.run("mmsim", ["run"], named.out if named.status == 0 else written)
     said = ended.out.decode().splitlines()
-    if beside[0].startswith("at 1 "):
-        check.same(f"{block.place}: log", ended.err.decode().splitlines(), beside)
-    elif columns:
-        check.same(f"{block.place}: answers", said, beside)
+    if found.has_answers:
+        numbers = re.findall(rb"^# \d+: line (\d+)$", named.err, re.MULTILINE)
+        answers = dict(zip(map(int, numbers), said))
+        wanted = [answers.get(at, "") for at in range(1, len(found.shown) + 1)]
+        check.same(f"{block.place}: answers", wanted, found.shown)
     else:
         is_told = ended.status == 0 or f"`{said[-1]}`" in text(block.document)
         check.holds(block.place, is_told, f"the script ends with {said[-1:]}, which is not told")
+    return False
 
 
-def compare_plain(check: Check, block: Block, files: list[str]) -> None:
-    """A block by itself: a script beside its answers, a script, or a part of a stored file."""
+def compare_plain(check: Check, block: Block, files: list[str], following: Optional[Block]) -> bool:
+    """A block by itself: a script, or a part of a stored file. Whether the next one belongs to it."""
     if block.body.startswith("machine "):
-        compare_script(check, block)
-        return
+        return compare_script(check, block, following)
     complaint = (
         "is no script, and no part of a stored file: tag it (`sh`, `text FILE`), or mark it in the "
         "line before, `<!-- not run: WHY -->`"
     )
     check.holds(block.place, any(is_part(block.body, it) for it in files), complaint)
+    return False
 
 
 # Commands
@@ -169,7 +216,7 @@ class Copy:
         self.check = check
         self.folder = folder
         self.logs: dict[str, str] = {}
-        self.ran: set[str] = set()
+        self.pasted: set[str] = set()
         words = ["git", "ls-files", "-z", "--cached", "--others", "--exclude-standard"]
         listed = subprocess.run(words, cwd=TOP, capture_output=True, check=True).stdout.decode()
         for name in filter(None, listed.split("\0")):
@@ -178,6 +225,9 @@ class Copy:
                 shutil.copy2(TOP / name, Path(folder) / name)
         for git in (["init", "-q"], ["add", "-A"]):
             subprocess.run(["git", *git], cwd=folder, check=True)
+        # what tools/build has compiled here of the same sources it takes there too
+        if (TOP / "out/try/bin").is_dir():
+            shutil.copytree(TOP / "out/try/bin", Path(folder) / "out/try/bin")
         self.path = os.environ.get("PATH", "")
         for program, built in check.programs.items():
             out = Path(folder) / "crates" / program / "out"
@@ -231,8 +281,10 @@ class Copy:
 
 
 def beside(name: str) -> str:
-    """A script's lines beside their answers, as tools/try prints them."""
-    script, answers = text(f"examples/{name}.mm"), text(f"examples/{name}.out")
+    """A plain script's lines beside their answers, as tools/try prints them."""
+    script, answers = file_or_nothing(f"examples/{name}.mm"), file_or_nothing(
+        f"examples/{name}.out"
+    )
     pairs = zip(script.splitlines(), answers.splitlines())
     return "".join(f"{line:<38}  {answer}\n" for line, answer in pairs)
 
@@ -257,15 +309,15 @@ def file_or_nothing(path: str) -> str:
 def expected(command: str, copy: Copy) -> list[str]:
     """What a command may write to standard output: what is stored of its example, else nothing."""
     found: list[str] = []
-    if command.startswith("tools/try "):
-        found.append(tried(copy.check, command.split()[1:]))
-    if re.search(r"rt try --cases \S+", command):
-        found.append(tried_cases(Path(copy.folder) / "out/cases"))
     kept = re.search(r"< \S*?([a-z-]+)\.mm .*2> (\S+)", command)
     if kept:
         copy.logs[kept[2]] = kept[1]
     if SILENT.search(command):
         return [""]
+    if command.startswith("tools/try "):
+        found.append(tried(copy.check, command.split()[1:]))
+    if re.search(r"rt try --cases \S+", command):
+        found.append(tried_cases(Path(copy.folder) / "out/cases"))
     where = re.search(r"where (\S+) < \S*?([a-z-]+)\.log", command)
     if where:
         rows = file_or_nothing(f"examples/{where[2]}.where").splitlines()
@@ -287,13 +339,16 @@ def tried_cases(folder: Path) -> str:
 # Links and numbers
 
 
+def anchor(heading: str) -> str:
+    """A heading's anchor, as it is made on GitHub."""
+    plain = re.sub(r"[^\w\- ]", "", heading.replace("`", "").lower())
+    return plain.strip().replace(" ", "-")
+
+
 def anchors(document: str) -> set[str]:
-    """The anchors of a document's headings, as they are made on GitHub."""
-    found = set()
-    for heading in re.findall(r"^#+ (.*)$", text(document), re.MULTILINE):
-        plain = re.sub(r"[^\w\- ]", "", heading.replace("`", "").lower())
-        found.add(plain.strip().replace(" ", "-"))
-    return found
+    """The anchors of a document's headings."""
+    whole = BLOCK.sub("", text(document))
+    return {anchor(it) for it in re.findall(r"^#+ (.*)$", whole, re.MULTILINE)}
 
 
 def compare_links(check: Check, document: str) -> None:
@@ -314,10 +369,14 @@ def compare_links(check: Check, document: str) -> None:
 def compare_made(copy: Copy, document: str) -> None:
     """Paragraphs whose numbers a command makes again."""
     for command, paragraph in MADE.findall(text(document)):
+        if copy.check.words.quick and COMPILES.search(command):
+            continue
         said = copy.run(document, command)
-        words = said.split()
-        numbers = paragraph.replace(",", "")
-        lost = [it for it in words if it.replace(",", "") not in numbers]
+        words = [it.replace(",", "") for it in said.split()]
+        plain = paragraph.replace(",", "")
+        lost = [
+            it for it in words if not re.search(rf"(?<![\w.]){re.escape(it)}(?!\w|\.\d)", plain)
+        ]
         copy.check.holds(document, bool(words) and not lost, f"`{command}` prints {said[:200]!r}")
 
 
@@ -335,29 +394,96 @@ def is_left(check: Check, block: Block) -> bool:
     return bool(PROVES.search(block.body) or is_quick)
 
 
+def compare_block(check: Check, copy: Copy, near: Near, files: list[str]) -> bool:
+    """A block, between those that stand beside it. Whether the next one is compared with it."""
+    block, before = near.block, near.before
+    is_output = before is not None and before.info[:1] == ["sh"] and block.info == ["text"]
+    if block.why is not None:
+        check.holds(block.place, block.why.strip() != "", "its mark has no reason")
+    elif block.info[:1] == ["sh"]:
+        if not is_left(check, block) and block.body not in copy.pasted:
+            copy.paste(block, near.right_behind)
+        copy.pasted.add(block.body)
+    elif block.info[:1] == ["text"] and len(block.info) > 1:
+        compare_part(check, block)
+    elif before is not None and is_output:
+        # what commands print that are left out is compared by itself, where it can be
+        if is_left(check, before) and block.body.startswith("machine "):
+            compare_script(check, block)
+    elif block.info in ([], ["text"]):
+        return compare_plain(check, block, files, near.following)
+    return False
+
+
 def compare_blocks(check: Check, copy: Copy) -> None:
     """Each block of each page."""
-    files, done = stored(), set()
+    files = stored()
     for document in pages():
         blocks = blocks_of(document)
+        is_done = False
         for at, block in enumerate(blocks):
             before = blocks[at - 1] if at and blocks[at - 1].is_followed else None
-            following = blocks[at + 1] if block.is_followed and at + 1 < len(blocks) else None
-            is_output = before is not None and before.info[:1] == ["sh"]
-            if block.why is not None:
-                check.holds(block.place, block.why.strip() != "", "its mark has no reason")
-            elif block.info[:1] == ["sh"]:
-                if not is_left(check, block) and block.body not in done:
-                    copy.paste(block, following)
-                done.add(block.body)
-            elif block.info[:1] == ["text"] and len(block.info) > 1:
-                compare_part(check, block)
-            elif is_output and block.info == ["text"]:
-                # what commands print that are left out is compared by itself, where it can be
-                if before and is_left(check, before) and block.body.startswith("machine "):
-                    compare_script(check, block)
-            elif block.info in ([], ["text"]):
-                compare_plain(check, block, files)
+            following = blocks[at + 1] if at + 1 < len(blocks) else None
+            near = Near(block, before, following)
+            is_done = not is_done and compare_block(check, copy, near, files)
+
+
+# Contents and sizes
+
+KB = 1024
+LIMITS = {
+    "README.md": 8, "docs/MODEL.md": 20, "docs/ARCHITECTURE.md": 14, "docs/DECISIONS.md": 15,
+    "docs/PROVING.md": 15, "docs/SPEED.md": 10,
+}  # fmt: skip
+PART_LINES = 500  # of a part of the guide
+CRATE_LIMIT = 3  # KB of a crate's README
+DOCUMENTS_LIMIT, CRATES_LIMIT = 210, 110  # KB of README.md and docs/, of the crates' READMEs
+PARTS = "docs/guide"
+
+
+def size(document: str) -> int:
+    return (TOP / document).stat().st_size
+
+
+def compare_size(check: Check, what: str, taken: int, limit: int) -> None:
+    """A size in bytes with its limit in KB."""
+    check.holds(what, taken <= limit * KB, f"has {taken} bytes, and at most {limit} KB")
+
+
+def compare_sizes(check: Check) -> None:
+    """Each page that has a limit, the parts of the guide, the crates' READMEs, and the sums."""
+    for document, limit in LIMITS.items():
+        compare_size(check, document, size(document), limit)
+    for part in sorted(TOP.glob(f"{PARTS}/*.md")):
+        count = text(part).count("\n")
+        told = f"has {count} lines, and at most {PART_LINES}"
+        check.holds(part.name, count <= PART_LINES, told)
+    readmes = sorted(str(it.relative_to(TOP)) for it in TOP.glob("crates/*/README.md"))
+    for readme in readmes:
+        compare_size(check, readme, size(readme), CRATE_LIMIT)
+    compare_size(check, "the crates' READMEs", sum(map(size, readmes)), CRATES_LIMIT)
+    documents = [it for it in pages() if it != "CONTRIBUTING.md"]
+    compare_size(check, "README.md and docs/", sum(map(size, documents)), DOCUMENTS_LIMIT)
+
+
+def compare_contents(check: Check, document: str) -> None:
+    """A page's contents list: each heading of the second level, in order."""
+    whole = BLOCK.sub("", text(document))
+    found = re.search(r"^Contents: (.*?)\n\n", whole, re.MULTILINE | re.DOTALL)
+    if found is None:
+        is_asked = document.startswith(f"{PARTS}/") or document == "docs/PROFILE.md"
+        check.holds(document, not is_asked, "has no contents list")
+        return
+    headings = [anchor(it) for it in re.findall(r"^## (.*)$", whole, re.MULTILINE)]
+    links = re.findall(r"\]\(#([^)]*)\)", found[1])
+    check.same(f"{document}: contents", links, headings)
+
+
+def compare_index(check: Check) -> None:
+    """docs/GUIDE.md links each part of the guide, in order."""
+    links = re.findall(r"\]\((guide/[^)#]*)\)", text("docs/GUIDE.md"))
+    parts = sorted(f"guide/{it.name}" for it in TOP.glob(f"{PARTS}/*.md"))
+    check.same("docs/GUIDE.md: parts", links, parts)
 
 
 def main() -> int:
@@ -375,6 +501,10 @@ def main() -> int:
         copy.compare_written()
     for document in sorted(set(links_of_all())):
         compare_links(check, document)
+    for document in pages():
+        compare_contents(check, document)
+    compare_index(check)
+    compare_sizes(check)
     return check.end()
 
 

@@ -1,30 +1,33 @@
 #!/usr/bin/env python3
-"""Compares each example with what the programs say, and sees that a document shows it.
+"""Compares each example with what the programs say, and sees that a document names it.
 
     examples/NAME.mm     a script: `mmsim run` answers NAME.out with status 0, and `mmlog check`
                          takes its log, which is NAME.log where there is one
     examples/NAME.log    a log: `mmlog check` says NAME.check, `mmlog where KEY` what NAME.where has
     examples/NAME.tell   `mmshow tell` says it of the script, its answers and its log, and so does
                          checks/reference/show.py
+    examples/NAME.txt    a script with Windows' names: the plain script that `mmnames` makes of it has
+                         the answers NAME.answers, the log NAME.log and the words NAME.tell, where
+                         they are there
     examples/NAME.part   lines of the log (checks/rows.py); NAME.table, NAME.csv and NAME.svg belong
-                         to checks of the tools, lab.txt and lab.answers to checks/names.py
+                         to checks of the tools
 
-README.md or a page of docs/ prints each script of up to 40 lines, beside its answers or numbered.
+README.md or a page of docs/ names each script; what it prints of one is for checks/documents.py.
 """
 
 from __future__ import annotations
 
 import sys
+import tempfile
 from pathlib import Path
 
 from common import TOP, Check, begin, maybe, read, row, run, text
 
 ENDINGS = "mm out log check where tell part table csv svg txt answers ipynb xz".split()
-SHOWN_LINES = 40
 
 
-def compare_script(check: Check, script: Path, printed: str) -> None:
-    """A script: its answers, its log, what is told of it, and where it is printed."""
+def compare_script(check: Check, script: Path) -> None:
+    """A script: its answers, its log, and what is told of it."""
     stored = row(script)
     ended = check.run("mmsim", ["run"], stored.script)
     check.same(f"{stored.name}: status", ended.status, 0)
@@ -40,20 +43,32 @@ def compare_script(check: Check, script: Path, printed: str) -> None:
         check.same(f"{stored.name}: tell", told.out, tell)
         said = run([sys.executable, "checks/reference/show.py", *words], ended.err)
         check.same(f"{stored.name}: tell of the reference", said.out, tell)
-    if stored.script.count(b"\n") <= SHOWN_LINES:
-        check.holds(
-            f"{stored.name}.mm",
-            is_printed(stored.script.decode(), stored.answers.decode(), printed),
-            "no page of README.md and docs/ prints it, beside its answers or numbered",
-        )
 
 
-def is_printed(script: str, answers: str, printed: str) -> bool:
-    """Whether the documents have a script beside its answers, or its lines numbered."""
-    pairs = zip(script.splitlines(), answers.splitlines())
-    beside = "".join(f"{line:<38}  {answer}\n" for line, answer in pairs)
-    numbered = "".join(f"{at:2}  {line}\n" for at, line in enumerate(script.splitlines(), 1))
-    return beside in printed or numbered in printed
+def compare_written(check: Check, script: Path) -> None:
+    """A script with Windows' names: its answers, its log, and what is told of it."""
+    stem = str(script.relative_to(TOP).with_suffix(""))
+    named = check.run("mmnames", [], script.read_bytes())
+    check.same(f"{stem}: names", (named.status, named.err), (0, b""))
+    ended = check.run("mmsim", ["run"], named.out)
+    check.same(f"{stem}: status", ended.status, 0)
+    check.same(f"{stem}: answers", ended.out, read(f"{stem}.answers"))
+    with tempfile.TemporaryDirectory(prefix="examples-") as folder:
+        words = ["tell", f"{folder}/plain.mm", f"{folder}/plain.out"]
+        Path(words[1]).write_bytes(named.out)
+        Path(words[2]).write_bytes(ended.out)
+        told = check.run("mmshow", words, ended.err).out
+    for what, said in (("log", ended.err), ("tell", told)):
+        kept = maybe(f"{stem}.{what}")
+        if kept is not None:
+            check.same(f"{stem}: {what}", said, kept)
+
+
+def compare_named(check: Check, script: Path, printed: str) -> None:
+    """A script is named in a document."""
+    name = script.relative_to(TOP)
+    told = "no page of README.md and docs/ names it"
+    check.holds(str(name), f"`{name}`" in printed, told)
 
 
 def compare_log(check: Check, log: Path) -> None:
@@ -75,11 +90,15 @@ def pages() -> str:
 
 
 def main() -> int:
-    check = begin(__doc__, ("mmsim", "mmlog", "mmshow"))
+    check = begin(__doc__, ("mmsim", "mmlog", "mmshow", "mmnames"))
     printed = pages()
     for path in sorted((TOP / "examples").iterdir()):
+        if path.suffix in (".mm", ".txt"):
+            compare_named(check, path, printed)
         if path.suffix == ".mm":
-            compare_script(check, path, printed)
+            compare_script(check, path)
+        elif path.suffix == ".txt":
+            compare_written(check, path)
         elif path.suffix == ".log":
             compare_log(check, path)
         elif path.suffix[1:] not in ENDINGS:

@@ -48,6 +48,7 @@ machine process exit file protect query create createfile open close flush exec 
 io trim age writer zeroer fail charge counts grow watch resetwatch stack probe access thread unbind
 call busy full fault pending ok error raise none dead slot block frame line yes moves
 run bulk check tell events synchronous fifo clock state key faults sums html lines talk help version small large
+manage undo quit
 fromkeys dict try_get_matches_from named NAME regional tactic ap cc omega rw else unsafe args stdin
 stdout resize
 with_capacity circular_buffer from_residual matches ret heap maximum Lcg64Xsh32 __try __chkstk
@@ -144,7 +145,7 @@ TOP_FOLDERS = "|".join(
 FILE = re.compile(rf"(?:{TOP_FOLDERS})/[\w./-]+")
 OWN_FILE = re.compile(r"(?:src|specs|proofs|must-fail)/[\w/.-]+")
 WRITTEN = re.compile(r"\.(mm|out|log|stdout|html|svg|csv|txt)$")
-NO_FILE = re.compile(r"NAME|\*|/out/|/out$")
+NO_FILE = re.compile(r"NAME|\*|^out/|/out/|/out$")
 
 
 def is_there(document: str, said: str) -> bool:

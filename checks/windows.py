@@ -32,6 +32,10 @@ ROW = re.compile(
 )
 
 
+# The last cell of a line of docs/WINDOWS.md that is about rows.
+ROWS_OF = re.compile(r"\| ((?:`[a-z0-9-]+`, )+)(?:certain|likely|unsure) \|$")
+
+
 @dataclass
 class Fact:
     """A row: its script, the profile's answers, and for some lines Windows' own."""
@@ -116,20 +120,26 @@ def compare_document(check: Check, files: dict[str, list[Fact]]) -> None:
     places = {fact.name: (file, fact) for file, facts in files.items() for fact in facts}
     named = set()
     for line in text(DOCUMENT).splitlines():
-        link = r"\[([^\]]*)\]\(\.\./tests/windows/([^)#]+)#([^)]*)\)"
-        for shown, file, name in re.findall(link, line):
-            if shown != name or name not in places or places[name][0] != file:
-                check.wrong(name, f"{DOCUMENT} names it `{shown}`, in {file}")
-            elif line.startswith("|"):
+        cell = ROWS_OF.search(line)
+        for name in re.findall(r"`([^`]*)`", cell[1]) if cell else ():
+            if check.holds(name, name in places, f"{DOCUMENT} names it, and no row has the name"):
                 named.add(name)
                 compare_line(check, line, places[name][1])
+    differ = sum(fact.verdict != "agrees" for _, fact in places.values())
+    whole = " ".join(text(DOCUMENT).split())
+    for told in (
+        f"{len(places)} facts",
+        f"{len(places) - differ} agree",
+        f"The {differ} that differ",
+    ):
+        check.holds(DOCUMENT, told in whole, f"does not say `{told}`")
     for name, (_, fact) in places.items():
         if fact.verdict != "agrees":
             check.holds(name, name in named, f"differs, and {DOCUMENT} does not tell it")
 
 
 def compare_line(check: Check, line: str, fact: Fact) -> None:
-    """A line of a table in docs/WINDOWS.md, about a row that it links to."""
+    """A line of a table in docs/WINDOWS.md, about a row that it names."""
     is_sure = line.endswith(f", {fact.sure} |")
     check.holds(fact.name, is_sure, f"is {fact.sure}, which {DOCUMENT} does not say")
     for at, answer in fact.windows.items():

@@ -29,6 +29,8 @@ from typing import Iterator
 TOP = Path(__file__).resolve().parent.parent
 TOOLS, RESULTS = TOP / "tools" / "windows", TOP / "tests" / "windows" / "results"
 DOCUMENT = TOP / "docs" / "WINDOWS.md"
+# The last cell of a line of docs/WINDOWS.md that is about rows.
+ROWS_OF = re.compile(r"\| ((?:`[a-z0-9-]+`, )+)(?:certain|likely|unsure) \|$")
 sys.path.insert(0, str(TOOLS))
 
 import draw  # noqa: E402
@@ -273,8 +275,9 @@ def compare_document() -> list[str]:
     wrong, systems = [], outcomes()
     text = DOCUMENT.read_text("ascii").splitlines()
     for line in text:
-        names = re.findall(r"\]\(\.\./tests/windows/[^)#]+#([^)]*)\)", line)
-        if line.startswith("|") and names and f" | {seen(names, systems)} | [" not in line:
+        cell = ROWS_OF.search(line)
+        names = re.findall(r"`([^`]*)`", cell[1]) if cell else []
+        if names and f" | {seen(names, systems)} | `" not in line:
             wrong.append(
                 f"docs/WINDOWS.md: {names[0]}: its column Seen is to be `{seen(names, systems)}`"
             )

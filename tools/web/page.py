@@ -206,7 +206,7 @@ def folded(told: List[str]) -> str:
 
 
 def examples(top: str) -> List[Dict[str, str]]:
-    guide = read(f"{top}/docs/GUIDE.md")
+    guide = "\n".join(read(path) for path in sorted(glob.glob(f"{top}/docs/guide/*.md")))
     found = menu(read(f"{top}/web/play/examples.txt"), f"{top}/examples")
     for it in found:
         it["script"] = read(script_file(f"{top}/examples", it["name"]) or "")
