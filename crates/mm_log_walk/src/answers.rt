@@ -71,7 +71,7 @@ fn put_number(words: &[u8], n: u64, text: &mut Vec<u8>) -> Result<(), NoMemory>
 
 /// Writes some words, a number and a line feed.
 #[tactic(auto, using(mm_text::proofs::DigitCounts::joined))]
-fn put_numbered(words: &[u8], n: u64, text: &mut Vec<u8>) -> Result<(), NoMemory>
+pub(crate) fn put_numbered(words: &[u8], n: u64, text: &mut Vec<u8>) -> Result<(), NoMemory>
     requires { length words.now ≤ 20 }
     ensures { OnOk result (text.new.items ≡ text.old.items ++ numbered words.now n (10 ∷ [])) }
 {

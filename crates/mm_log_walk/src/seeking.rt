@@ -2,8 +2,8 @@ ghost use Rattle.std.specs.Prelude.{◌≡◌, ◌++◌, OnOk};
 ghost use Rattle.mm_replay.specs.Standing.{life as life_of};
 ghost use Rattle.mm_log_walk.specs.Seeking.{lacks, sought_text, sought_words, sought_status};
 
+use crate::answers::put_numbered;
 use mm_replay::Life;
-use mm_text::{LineBuf, put_decimal};
 use mm_types::NoMemory;
 
 /// What a log has to have for what is asked of it.
@@ -36,26 +36,14 @@ pub(crate) fn sought_status(sought: Sought, life: &Life) -> u8
 }
 
 /// Writes that a log has no such line or page frame.
-#[tactic(auto, using(mm_text::proofs::DigitCounts::joined))]
 fn put_sought(sought: Sought, text: &mut Vec<u8>) -> Result<(), NoMemory>
     ensures { OnOk result (text.new.items ≡ text.old.items ++ sought_text sought) }
 {
-    let mut line = LineBuf::new();
     match sought {
-        Sought::Nothing => {}
-        Sought::Line(n) => {
-            line.push_slice(b"no such line ");
-            put_decimal(&mut line, u64::from(n));
-            line.push(b'\n');
-        }
-        Sought::Frame(n) => {
-            line.push_slice(b"no such frame ");
-            put_decimal(&mut line, u64::from(n));
-            line.push(b'\n');
-        }
+        Sought::Nothing => Ok(()),
+        Sought::Line(n) => put_numbered(b"no such line ", u64::from(n), text),
+        Sought::Frame(n) => put_numbered(b"no such frame ", u64::from(n), text),
     }
-    text.extend_from_slice(line.as_slice())?;
-    Ok(())
 }
 
 /// Writes what a log that ends in this state has not, if it lacks what is sought.
