@@ -1,4 +1,4 @@
-"""The tables that mmshow prints in columns, `counts` and `faults`, as rows of csv."""
+"""What mmshow prints, in parts: tables in columns, `counts` and `faults`, as csv; a told line."""
 
 from __future__ import annotations
 
@@ -17,3 +17,16 @@ def as_csv(form: str, lines: Iterable[str]) -> Iterator[str]:
         if not line or line.startswith(("paging file:", "files:", "as mmlog")):
             return
         yield ",".join(line.split()[: KEPT[form]])
+
+
+def told_of(rows: Iterable[str], line: int) -> list[str]:
+    """What `mmshow tell` tells of one line of a script: the line with its answer, then its moves."""
+    told: list[str] = []
+    for row in rows:
+        if row.partition(" ")[0] == str(line):
+            told = [row]
+        elif told and row[:1] != " ":
+            break
+        elif told:
+            told.append(row)
+    return told

@@ -25,7 +25,7 @@ from typing import IO, Any
 
 from . import programs
 from .classes import fault_of, grouped
-from .columns import as_csv
+from .columns import as_csv, told_of
 from .errors import Ended, Mistake
 from .libraries import require
 from .names import ERROR, STATUS
@@ -152,17 +152,9 @@ class Run:
 
     def words(self, line: int) -> str:
         """A line as `mmshow tell` tells it: its answer, its moves in words, and why."""
-        told: list[str] = []
         with self.say("tell", *self.texts) as said:
-            for row in said:
-                text = row.decode("latin-1").rstrip("\n")
-                if text.partition(" ")[0] == str(line):
-                    told = [text]
-                elif told and text[:1] != " ":
-                    break
-                elif told:
-                    told.append(text)
-        return "\n".join(told)
+            rows = (row.decode("latin-1").rstrip("\n") for row in said)
+            return "\n".join(told_of(rows, line))
 
     def save(self, folder: str | os.PathLike[str]) -> Path:
         """Copies the three files into a folder, and says which."""
