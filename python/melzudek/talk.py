@@ -183,7 +183,7 @@ class Talk:
 
 
 def help_of(word: str) -> list[str]:
-    """What a call takes, as mmnames says it, and its rule of docs/PROFILE.md where that is there."""
+    """What a call takes, as mmnames says it, and its rule where docs/PROFILE.md is there."""
     heard = hear([word])
     reasons = [reason for _, reason in heard.said.get(1, [])]
     found = [missing[1] for missing in map(MISSING.fullmatch, reasons) if missing]

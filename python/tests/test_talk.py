@@ -101,8 +101,9 @@ def test_reasons_have_the_number_of_the_log_and_leave_the_line_out() -> None:
 
 def test_undo_runs_the_lines_before_it_again(tmp_path: Path) -> None:
     into = tmp_path / "kept"
-    given = "undo\nmachine 64 64 4 0\nprocess 0 32\nprocess 0 8\nundo\nlet a = 64K\nundo\nread 1 a 1\nundo\nundo\nundo\n"
-    status, shown, told = said(f"{given}machine 8 8 1 0\nprocess 0 4\n", "--into", str(into))
+    given = "undo\nmachine 64 64 4 0\nprocess 0 32\nprocess 0 8\nundo\nlet a = 64K\nundo\n"
+    given += "read 1 a 1\nundo\nundo\nundo\nmachine 8 8 1 0\nprocess 0 4\n"
+    status, shown, told = said(given, "--into", str(into))
     assert status == 0 and told == f"melzudek: {into} has the run\n"
     assert below(shown, "1> undo") == ["there is no line to take back"]
     assert below(shown, "4> undo") == ["taken back: process 0 8"]
