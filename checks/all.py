@@ -21,8 +21,8 @@ from typing import NamedTuple, Optional
 TOP = Path(__file__).resolve().parent.parent
 # The quick ones first.
 CHECKS = """
-faces prose rows words examples windows names tries hostile outside drawn show traces page python
-wine web documents
+faces prose rows words examples windows names tries hostile outside drawn show install traces page
+python wine web documents
 """.split()
 # Checks that take their programs by place.
 BY_PLACE = {"page": ("mmsim", "mmshow"), "traces": ("mmsim", "mmlog", "mmshow")}

@@ -1,4 +1,7 @@
-"""A headless Chromium that is led through its debugging pipe; Python's library alone is needed."""
+"""A headless Chromium that is led through its debugging pipe; Python's library alone is needed.
+
+checks/page.py and checks/web.py lead it, and tools/bench.
+"""
 
 from __future__ import annotations
 
@@ -13,6 +16,9 @@ import time
 from typing import Any
 
 NAMES = ("chromium", "chromium-browser")
+EVENTS = ("Runtime.exceptionThrown", "Log.entryAdded", "Runtime.consoleAPICalled")
+# the numbers of keys that a page may ask for by number
+KEYS = {" ": 32, "Enter": 13, "Tab": 9, "Escape": 27, "F6": 117, "ArrowDown": 40}
 READY = "location.protocol === 'file:' && document.documentElement?.dataset.ready !== undefined"
 
 
@@ -41,9 +47,14 @@ def find_browser() -> str | None:
 
 
 class Browser:
-    """One window. Its methods raise BrowserError where the browser does not answer in time."""
+    """One window. Its methods raise BrowserError where the browser does not answer in time.
 
-    def __init__(self, name: str, width: int = 1500, height: int = 1400) -> None:
+    `said` is what the page wrote to the console since it was opened.
+    """
+
+    def __init__(
+        self, name: str, width: int = 1500, height: int = 1400, is_phone: bool = False
+    ) -> None:
         # its helpers may still write there as it ends
         self.profile = tempfile.TemporaryDirectory(ignore_cleanup_errors=True)
         (reads, self.to), (self.back, writes) = os.pipe(), os.pipe()
@@ -67,12 +78,16 @@ class Browser:
         self.session = found["sessionId"]
         for domain in ("Page", "Runtime", "Log"):
             self.ask(f"{domain}.enable")
-        self.resize(width, height)
+        self.ask("Emulation.setFocusEmulationEnabled", enabled=True)
+        self.resize(width, height, is_phone)
 
     def __enter__(self) -> Browser:
         return self
 
     def __exit__(self, *_: object) -> None:
+        self.close()
+
+    def close(self) -> None:
         self.process.terminate()
         self.process.wait()
         os.close(self.to)
@@ -90,11 +105,7 @@ class Browser:
             self.text += more
         first, self.text = self.text.split(b"\0", 1)
         message: dict[str, Any] = json.loads(first)
-        if message.get("method") in (
-            "Runtime.exceptionThrown",
-            "Log.entryAdded",
-            "Runtime.consoleAPICalled",
-        ):
+        if message.get("method") in EVENTS:
             self.said.append(json.dumps(message["params"])[:400])
         return message
 
@@ -130,20 +141,23 @@ class Browser:
         self.said = []
         self.ask("Page.navigate", url="about:blank")
         self.ask("Page.navigate", url=f"file://{path}{place}")
-        end = time.monotonic() + 120
-        while not self.run(ready):
-            if time.monotonic() > end:
-                raise BrowserError(f"{path} is never ready: {self.said[:1]}")
-            time.sleep(0.02)
+        self.wait(ready, 120)
 
-    def resize(self, width: int, height: int) -> None:
-        self.ask(
-            "Emulation.setDeviceMetricsOverride",
-            width=width,
-            height=height,
-            deviceScaleFactor=1,
-            mobile=False,
-        )
+    def wait(self, script: str, seconds: float = 60) -> None:
+        """Waits until a script's value is true."""
+        end, trouble = time.monotonic() + seconds, ""
+        while time.monotonic() < end and self.process.poll() is None:
+            try:
+                if self.run(script):
+                    return
+            except BrowserError as error:  # between two pages there is none to ask
+                trouble = str(error)
+            time.sleep(0.02)
+        raise BrowserError(f"never came: {script[:200]}: {trouble} {self.said[:1]}")
+
+    def resize(self, width: int, height: int, is_phone: bool = False) -> None:
+        size = {"width": width, "height": height, "deviceScaleFactor": 1, "mobile": is_phone}
+        self.ask("Emulation.setDeviceMetricsOverride", **size)
 
     def is_dark(self, wanted: bool) -> None:
         value = "dark" if wanted else "light"
@@ -157,8 +171,40 @@ class Browser:
         self.ask("Input.dispatchMouseEvent", type=f"mouse{kind}", x=x, y=y, **more)
 
     def key(self, key: str, modifiers: int = 0) -> None:
+        """A key, with 2 for Ctrl and 8 for Shift."""
+        more = {"code": key, "windowsVirtualKeyCode": KEYS[key]} if key in KEYS else {}
         for kind in ("keyDown", "keyUp"):
-            self.ask("Input.dispatchKeyEvent", type=kind, key=key, modifiers=modifiers)
+            self.ask("Input.dispatchKeyEvent", type=kind, key=key, modifiers=modifiers, **more)
+
+    def type(self, text: str) -> None:
+        """Types a text, key by key."""
+        for letter in text:
+            self.ask("Input.dispatchKeyEvent", type="char", text=letter)
+
+    def work(self) -> list[int]:
+        """Nanoseconds that the pages' threads ran, and that they waited for a processor."""
+        total = [0, 0]
+        for process in self.renderers():
+            try:
+                with open(f"/proc/{process}/task/{process}/schedstat", encoding="ascii") as file:
+                    ran, waited, _ = map(int, file.read().split())
+            except OSError:
+                continue
+            total = [total[0] + ran, total[1] + waited]
+        return total
+
+    def renderers(self) -> list[int]:
+        """The processes of this browser that hold pages."""
+        found = []
+        for number in filter(str.isdigit, os.listdir("/proc")):
+            try:
+                with open(f"/proc/{number}/cmdline", "rb") as file:
+                    words = file.read()
+            except OSError:
+                continue
+            if b"--type=renderer" in words and self.profile.name.encode() in words:
+                found.append(int(number))
+        return found
 
     def shot(self, path: str, is_whole: bool = False) -> None:
         """A screenshot, of what is seen or of the whole page."""

@@ -16,7 +16,7 @@ import subprocess
 import sys
 from typing import NamedTuple, Optional
 
-from common import Check, Ended, begin, debian, read, run
+from common import PROGRAMS, Check, Ended, begin, debian, read, run
 
 # Descriptors as a shell writes them; FILE is the form's usual input.
 BAD_INPUTS = {"closed": "<&-", "a folder": "<."}
@@ -51,13 +51,15 @@ FORMS = [
         Form("mmshow", words, LOG, 4, 5, None)
         for words in (
             ["sums"], ["faults"], ["html"], ["tell"], ["counts"], ["counts", "9"], ["state", "9"],
-            ["frame", "1"], ["key", "p1.16"],
+            ["frame", "1"], ["key", "p1.16"], ["events"],
         )
     ),
     Form("mmshow", ["help"], LOG, None, 5, None),
     Form("mmnames", [], SCRIPT, 4, 5, None),
     Form("mmnames", ["lines"], SCRIPT, 4, 5, 5),
     Form("mmnames", ["talk"], SCRIPT, 4, 5, None),
+    *(Form(name, ["--help"], SCRIPT, None, 5, None) for name in PROGRAMS),
+    *(Form(name, ["--version"], SCRIPT, None, 5, None) for name in PROGRAMS),
     Form("mmnames", [], MISTAKE, 4, None, 5),
     Form("mmnames", ["lines"], MISTAKE, 4, None, 5),
 ]  # fmt: skip

@@ -305,6 +305,20 @@ def names_of_numbers(hands: Hands) -> None:
     hands.note("the script's name", title, ["hands.mm: memory, line by line"] * 2)
 
 
+def full_paging_file(hands: Hands) -> None:
+    """A writer that finds no slot says so; one that is asked for no more does not."""
+    script = "machine 8 1 1 0\nprocess 0 8\nalloc 1 0x10000 0x3000 0x3000 0x4\n"
+    script += "".join(f"write 1 0x1{page}000 01\n" for page in range(3))
+    script += "trim 1 8\nwriter 1\nio 1\nwriter 4\nwriter 0\n"
+    log, files = hands.played(script)
+    sentence = "No slot of the paging file is free: 2 modified pages are not written."
+    hands.page(log, files)
+    for line, wanted in ((8, ""), (9, ""), (10, sentence), (11, "")):
+        hands.set("number", line)
+        said = hands.js("document.querySelector('#line p.not-ok')?.textContent ?? ''")
+        hands.note(f"line {line}", said, wanted)
+
+
 # ---- threads, keys, io
 def threads(hands: Hands) -> None:
     log, files = hands.played(THREADS)
@@ -619,6 +633,7 @@ ALONE = [
     before_and_after,
     one_sentence,
     names_of_numbers,
+    full_paging_file,
     threads,
     far_keys,
     io_none,

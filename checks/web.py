@@ -5,8 +5,8 @@ usage: checks/web.py [--bin FOLDER] [--tried] [--seed N] [--page FILE]
 
 It builds the page (tools/web/build; what was built of the same sources is taken), and compares
 
-  the four programs    status and both streams of each, native against WebAssembly in one Node
-                       process: examples, rows, mistakes, scripts and logs that are cut or spoiled,
+  the four programs    status and both streams of each, native against WebAssembly in Node:
+                       examples, rows, mistakes, scripts and logs that are cut or spoiled,
                        generated scripts, words that are no form, every form of mmshow
   the page             each example by the page's own worker; names, address spaces, a second
                        machine; a mistake at its line; both directions between script and charts;
@@ -15,8 +15,9 @@ It builds the page (tools/web/build; what was built of the same sources is taken
 
 FOLDER has the native programs (MELZUDEK_BIN, or crates/NAME/out/NAME, where it is not given). The
 page is built of the proved modules; with --tried, or where libraries are not proved here, of those
-of `rt try`. Where a package is missing and cannot be installed, what needs it is
-left out, and a line says so.
+of `rt try`. What was built of the same sources is taken from this machine's cache (tools/web/build),
+else four programs are proved again, as many at once as memory allows. Where a package is missing and
+cannot be installed, what needs it is left out, and a line says so.
 """
 
 import argparse
@@ -187,7 +188,7 @@ def spoiled_logs(draw: random.Random, log: bytes) -> List[bytes]:
 
 
 def by_node(cases: List[Case], room: str) -> List[List]:
-    """The results of the WebAssembly programs, in one Node process."""
+    """The results of the WebAssembly programs, in as many Node processes as there are processors."""
     names: Dict[bytes, str] = {}
 
     def put(data: bytes) -> str:
@@ -201,12 +202,25 @@ def by_node(cases: List[Case], room: str) -> List[List]:
         [program, words, put(given), {name: put(data) for name, data in files.items()}]
         for program, words, given, files in cases
     ]
-    with open(f"{room}/cases.json", "w", encoding="utf-8") as file:
+    shares = os.cpu_count() or 1
+    parts = [(told[at::shares], f"{room}/{at}") for at in range(shares)]
+    with concurrent.futures.ThreadPoolExecutor(shares) as pool:
+        found = list(pool.map(by_one_node, parts))
+    results: List[List] = [[]] * len(cases)
+    for at, some in enumerate(found):
+        results[at::shares] = some
+    return results
+
+
+def by_one_node(part: Tuple[List, str]) -> List[List]:
+    """The results of some cases in one Node process."""
+    told, place = part
+    with open(f"{place}.cases", "w", encoding="utf-8") as file:
         json.dump(told, file)
-    places = [f"{TOP}/web/play/host.js", f"{TOP}/out/web/built.json", f"{room}/cases.json"]
-    words = ["node", f"{TOP}/checks/web_node.mjs", *places, f"{room}/results.json"]
+    places = [f"{TOP}/web/play/host.js", f"{TOP}/out/web/built.json", f"{place}.cases"]
+    words = ["node", f"{TOP}/checks/web_node.mjs", *places, f"{place}.results"]
     subprocess.run(words, check=True, timeout=1800)
-    with open(f"{room}/results.json", encoding="utf-8") as file:
+    with open(f"{place}.results", encoding="utf-8") as file:
         return json.load(file)
 
 
@@ -283,7 +297,7 @@ def main(arguments: List[str]) -> int:
     if not build(given.tried):
         return 1
     tried, bad = compare(native, given.seed)
-    seen, wrong = web_page.check(given.page, native, TOP, install)
+    seen, wrong = web_page.check(given.page, native, TOP)
     total = bad + wrong
     ending = "no differences" if not total else f"{total} differences"
     print(f"web: {tried + seen} compared, {ending}")

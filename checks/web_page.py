@@ -1,19 +1,23 @@
 """The page of the programs, in a headless Chromium: the part of checks/web.py that needs a browser.
 
-Each check counts what it compared, tells of what differs, and raises Trouble where nothing comes.
+Each check counts what it compared, tells of what differs, and raises BrowserError where nothing comes.
 """
 
 import json
 import os
 import re
 import tempfile
+import threading
 import time
+from concurrent.futures import ThreadPoolExecutor
+from functools import partial
 from typing import Any, Callable, Dict, List, Tuple
 
-from web_browser import Page, Trouble, find_browser
+from browser import Browser, BrowserError, find_browser
 
 LONGEST_GAP = 200  # milliseconds in which the page's own thread may be busy at once
 LINES = 20_000
+BROWSERS = 3  # that are led side by side
 LEAST, MOST = 0x10000, 0x7FFF0000  # the user addresses
 RUNS = "Number(document.documentElement.dataset.runs ?? 0)"
 SHOWN = "!!document.querySelector('iframe.shown')"
@@ -22,34 +26,39 @@ SHOWN = "!!document.querySelector('iframe.shown')"
 class Checks:
     """The checks of one page; `native` runs the native programs."""
 
-    def __init__(self, address: str, browser: str, native: Any, top: str):
-        self.address, self.browser, self.native, self.top = address, browser, native, top
+    def __init__(self, path: str, browser: str, native: Any, top: str):
+        self.path, self.browser, self.native, self.top = path, browser, native, top
         self.tried = self.bad = 0
+        self.lock = threading.Lock()
 
     def same(self, what: str, got: Any, wanted: Any) -> None:
-        self.tried += 1
-        if got != wanted:
-            self.bad += 1
-            print(f"web: {what}: {str(got)[:300]!r}, not {str(wanted)[:300]!r}")
+        is_same = got == wanted
+        with self.lock:
+            self.tried += 1
+            self.bad += not is_same
+        if not is_same:
+            self.tell(f"{what}: {str(got)[:300]!r}, not {str(wanted)[:300]!r}")
+
+    def tell(self, complaint: str) -> None:
+        print(f"web: {complaint}", flush=True)
 
     def holds(self, what: str, is_so: bool) -> None:
         self.same(what, bool(is_so), True)
 
-    def open(self, place: str = "", **size: Any) -> Page:
-        page = Page(self.browser, **size)
-        page.go(self.address + place)
-        page.wait(f"{RUNS} > 0", 120)
+    def open(self, place: str = "", is_dark: bool = False, **size: Any) -> Browser:
+        page = Browser(self.browser, **{"height": 950, **size})
+        page.is_dark(is_dark)
+        page.open(self.path, place, f"{RUNS} > 0")
         return page
 
-    def after(self, page: Page, act: str) -> None:
+    def after(self, page: Browser, act: str) -> None:
         """Does something that leads to a run, and waits for its end."""
-        before = page.js(RUNS)
-        page.js(act)
+        before = page.run(RUNS)
+        page.run(act)
         page.wait(f"{RUNS} > {before} && !busy", 120)
 
-    def quiet(self, page: Page, what: str) -> None:
-        said = json.dumps([event["params"] for event in page.events])[:300]
-        self.same(f"{what}: written to the console", said if page.events else "", "")
+    def quiet(self, page: Browser, what: str) -> None:
+        self.same(f"{what}: written to the console", "; ".join(page.said)[:300], "")
 
     # ---- what the native programs say of a written script
 
@@ -68,20 +77,20 @@ class Checks:
 
     # ---- the checks
 
-    def examples(self, page: Page) -> None:
+    def examples(self, page: Browser) -> None:
         """Each example: answers, log, page and moves in words, as the native programs give them."""
         page.wait(SHOWN, 60)
-        for it in page.js("data.examples.map(({ name, script }) => ({ name, script }))"):
+        for it in page.run("data.examples.map(({ name, script }) => ({ name, script }))"):
             name, script = it["name"], it["script"]
             wanted = self.natively(script)
-            got = page.js(RUN_EXAMPLE % json.dumps(name))
+            got = page.run(RUN_EXAMPLE % json.dumps(name))
             for part in ("plain", "answers", "log", "page"):
                 self.same(f"{name}: {part}", got[part], wanted[part])
             self.names(page, name, wanted)
             if len(wanted["log"]) < 20_000:
                 self.told(page, name, wanted["tell"])
 
-    def told(self, page: Page, name: str, tell: str) -> None:
+    def told(self, page: Browser, name: str, tell: str) -> None:
         """The moves of each line, in words."""
         lines: List[List[str]] = []
         for line in tell.splitlines():
@@ -92,26 +101,26 @@ class Checks:
         every = (
             "Promise.all([...Array(COUNT).keys()].map((i) => first.ask('tell', { line: i + 1 })))"
         )
-        got = page.js(
+        got = page.run(
             every.replace("COUNT", str(len(lines))) + ".then((all) => all.map((it) => it.moves))"
         )
         self.same(f"{name}: moves in words", got, lines)
 
-    def names(self, page: Page, name: str, wanted: Dict[str, str]) -> None:
+    def names(self, page: Browser, name: str, wanted: Dict[str, str]) -> None:
         """The names of refusals beside the lines are those that mmshow has behind them."""
         answers = [it for it in wanted["answers"].splitlines() if re.match("error|raise", it)]
-        got = page.js(f"{json.dumps(answers)}.map((answer) => refusalOf(answer))")
+        got = page.run(f"{json.dumps(answers)}.map((answer) => refusalOf(answer))")
         for answer, meant in zip(answers, got):
             if f"{answer} [" in wanted["tell"]:
                 self.holds(f"{name}: {answer} is {meant}", f"{answer} [{meant}]" in wanted["tell"])
 
-    def spaces(self, page: Page) -> None:
+    def spaces(self, page: Browser) -> None:
         """The address spaces and the charge behind a line, asked natively at each base shown."""
         for name in ("lab", "under-pressure", "shared-section", "stack-grows"):
             self.after(page, f"putExample({json.dumps(name)})")
-            plain = page.js("first.ask('files').then(({ plain }) => plain)").splitlines()
+            plain = page.run("first.ask('files').then(({ plain }) => plain)").splitlines()
             for line in range(2, len(plain) + 1, 3):
-                got = page.js(f"first.ask('spaces', {{ line: {line} }})")
+                got = page.run(f"first.ask('spaces', {{ line: {line} }})")
                 asked = [
                     f"query {it['pid']} 0x{region['base']:X}"
                     for it in got["processes"]
@@ -132,101 +141,112 @@ class Checks:
                         f"{name}: no gap in a walk", bases + ends[-1:], [LEAST, *ends[:-1], MOST]
                     )
 
-    def mistakes(self, page: Page) -> None:
+    def mistakes(self, page: Browser) -> None:
         """A mistake stands at its line with its reason, and goes when it is mended."""
         self.after(
             page, "putText('machine 64 64 4 0\\nprocess 0 32\\n\\nraed 1 0x10000 4\\ncharge\\n')"
         )
         reason = "no such word 'raed'; is 'read' meant?"
         row = "[...document.querySelectorAll('#answers .CodeMirror-line')][3].textContent"
-        self.holds("a mistake at its line", reason in page.js(row))
-        self.holds("a mistake below", f"line 4: {reason}" in page.js("element('told').textContent"))
+        self.holds("a mistake at its line", reason in page.run(row))
+        self.holds(
+            "a mistake below", f"line 4: {reason}" in page.run("element('told').textContent")
+        )
         sign = "!!editor.script.lineInfo(3).gutterMarkers?.signs"
-        self.holds("a mistake's sign", page.js(sign))
-        self.same("its word", page.js("document.querySelector('.under').textContent"), "raed")
+        self.holds("a mistake's sign", page.run(sign))
+        self.same("its word", page.run("document.querySelector('.under').textContent"), "raed")
         self.after(
             page, "editor.script.replaceRange('read', { line: 3, ch: 0 }, { line: 3, ch: 4 })"
         )
-        self.holds("mended", "raise 0xC0000005" in page.js(row) and not page.js(sign))
-        self.same("nothing is told", page.js("element('told').textContent"), "")
+        self.holds("mended", "raise 0xC0000005" in page.run(row) and not page.run(sign))
+        self.same("nothing is told", page.run("element('told').textContent"), "")
 
-    def typing(self, page: Page) -> None:
+    def typing(self, page: Browser) -> None:
         """Keys: a script that is typed is run; calls and names are completed."""
         self.after(page, "putText('machine 64 64 4 0\\nprocess 0 32\\n')")
-        page.js("(editor.script.focus(), editor.script.execCommand('goDocEnd'))")
+        page.run("(editor.script.focus(), editor.script.execCommand('goDocEnd'))")
         page.type("Virt")
         hinted(page)
-        shown = page.js("document.querySelector('.CodeMirror-hints').textContent")
+        shown = page.run("document.querySelector('.CodeMirror-hints').textContent")
         self.holds("a call with its arguments", "VirtualAlloc pid, addr, size, type, prot" in shown)
-        page.press("Enter")
+        page.key("Enter")
         page.type("(1, 0, 64K, MEM_COM")
         hinted(page)
         self.holds(
             "a name",
-            "MEM_COMMIT" in page.js("document.querySelector('.CodeMirror-hints').textContent"),
+            "MEM_COMMIT" in page.run("document.querySelector('.CodeMirror-hints').textContent"),
         )
-        page.press("Enter")
+        page.key("Enter")
         page.type(", PAGE_READW")
         hinted(page)
-        page.press("Enter")
+        page.key("Enter")
         page.type(")")
         page.wait("run.answers.length === 3 && run.answers[2] === 'ok 0x00010000'", 30)
         self.same(
             "what was typed",
-            page.js("editor.script.getLine(2)"),
+            page.run("editor.script.getLine(2)"),
             "VirtualAlloc(1, 0, 64K, MEM_COMMIT, PAGE_READWRITE)",
         )
         help_text = awaited(page, "element('help').textContent", "MEM_RESERVE")
         self.holds("the rule of its call", "MEM_RESERVE" in help_text and "1455" in help_text)
-        page.press("Tab")
-        self.holds("Tab leaves the editor", not page.js("editor.script.hasFocus()"))
-        page.js("editor.script.focus()")
-        page.press("F6")
-        self.same("F6", page.js("document.activeElement.dataset.view"), "frames")
+        page.key("Tab")
+        self.holds("Tab leaves the editor", not page.run("editor.script.hasFocus()"))
+        page.run("editor.script.focus()")
+        page.key("F6")
+        self.same("F6", page.run("document.activeElement.dataset.view"), "frames")
+        for name in ("bar", "grip"):
+            left = f"element('{name}').getBoundingClientRect().left"
+            before = page.run(f"(element('{name}').focus(), {left})")
+            page.key("ArrowLeft")
+            self.holds(f"an arrow key moves the {name}", page.run(left) < before)
+            told = f"Number(element('{name}').getAttribute('aria-valuenow'))"
+            part = f"Math.round((100 * {left}) / innerWidth)"
+            self.holds(f"the {name} tells its place", page.run(f"{told} === {part}"))
 
-    def linked(self, page: Page) -> None:
+    def linked(self, page: Browser) -> None:
         """A line that is chosen left is shown right, and the other way round."""
         self.after(page, "(view('frames'), putExample('lab'))")
-        page.js("editor.choose(32)")
-        page.js("addEventListener('message', ({ data }) => (globalThis.heard = data))")
+        page.wait(SHOWN, 60)
+        page.run("editor.choose(32)")
+        page.run("addEventListener('message', ({ data }) => (globalThis.heard = data))")
         page.wait("run.lineOf[editor.line()] === 20")
         self.holds(
             "its moves in words",
             "hard fault" in awaited(page, "element('moves').textContent", "hard fault"),
         )
         frame = "document.querySelector('iframe:last-child')"
-        page.js("editor.script.focus()")
-        page.js(CHOSEN % (12, frame + ".contentWindow"))
-        self.same("chosen right by no person", page.js("editor.line()"), 32)
-        page.js(frame + ".focus()")
-        page.js(CHOSEN % (12, frame + ".contentWindow"))
-        self.same("chosen right", page.js("editor.line()"), 22)
-        page.js(CHOSEN % (3, "window"))
-        self.same("chosen by another window", page.js("editor.line()"), 22)
+        page.run("editor.script.focus()")
+        page.run(CHOSEN % (12, frame + ".contentWindow"))
+        self.same("chosen right by no person", page.run("editor.line()"), 32)
+        page.run(frame + ".focus()")
+        page.run(CHOSEN % (12, frame + ".contentWindow"))
+        self.same("chosen right", page.run("editor.line()"), 22)
+        page.run(CHOSEN % (3, "window"))
+        self.same("chosen by another window", page.run("editor.line()"), 22)
 
-    def share(self, page: Page) -> None:
+    def share(self, page: Browser) -> None:
         """Share puts the script into the address; the address opens it again."""
         script = "machine 16 8 2 0\nprocess 0 8  # \u00e4\n"
         script += "VirtualAlloc(1, 0, 4K, MEM_COMMIT, PAGE_READONLY)\n"
         self.after(page, f"putText({json.dumps(script)})")
-        page.js("element('share').onclick()")
+        page.run("element('share').onclick()")
         page.wait("location.hash.startsWith('#script=')")
-        place, answers = page.js("location.hash"), page.js("run.answers")
+        place, answers = page.run("location.hash"), page.run("run.answers")
         again = self.open(place)
         try:
-            self.same("shared: the script", again.js("editor.text()"), script)
-            self.same("shared: the answers", again.js("run.answers"), answers)
+            self.same("shared: the script", again.run("editor.text()"), script)
+            self.same("shared: the answers", again.run("run.answers"), answers)
             self.quiet(again, "a shared script")
         finally:
             again.close()
 
-    def files(self, page: Page) -> None:
+    def files(self, page: Browser) -> None:
         """What is saved is the run; a file that is dropped in is run."""
         self.after(page, "putExample('hard-fault')")
         wanted = self.natively(
-            page.js("data.examples.find(({ name }) => name === 'hard-fault').script")
+            page.run("data.examples.find(({ name }) => name === 'hard-fault').script")
         )
-        page.js(CATCH_SAVED)
+        page.run(CATCH_SAVED)
         parts = {
             "script.mm": "plain",
             "answers.out": "answers",
@@ -234,26 +254,26 @@ class Checks:
             "page.html": "page",
         }
         for name, part in parts.items():
-            page.js(f"(element('save').value = {json.dumps(name)}, element('save').onchange())")
+            page.run(f"(element('save').value = {json.dumps(name)}, element('save').onchange())")
             page.wait(f"globalThis.saved[{json.dumps(name)}] !== undefined", 20)
             self.same(
-                f"saved: {name}", page.js(f"globalThis.saved[{json.dumps(name)}]"), wanted[part]
+                f"saved: {name}", page.run(f"globalThis.saved[{json.dumps(name)}]"), wanted[part]
             )
         self.after(page, DROP)
         self.same(
             "a dropped file",
-            page.js("[editor.text(), run.answers[0]]"),
+            page.run("[editor.text(), run.answers[0]]"),
             ["machine 9 1 1 0\n", "ok 6"],
         )
 
-    def second(self, page: Page) -> None:
+    def second(self, page: Browser) -> None:
         """A second machine: answers, faults and where they part, against native runs."""
         self.after(page, "(view('second'), putExample('under-pressure'))")
         page.wait("!!document.querySelector('[data-name=frames]')", 30)
         for name, value in (("frames", 8), ("slots", 3), ("most", 2)):
-            page.js(SET_SLIDER % (name, value))
-            got = page.js(ASK_SECOND)
-            plain = page.js("first.ask('files').then(({ plain }) => plain)")
+            page.run(SET_SLIDER % (name, value))
+            got = page.run(ASK_SECOND)
+            plain = page.run("first.ask('files').then(({ plain }) => plain)")
             script = rewritten(plain, got["machine"])
             _, out, log = self.native.run("mmsim", ["run"], script.encode())
             self.same(f"{name} {value}: answers", got["said"]["answers"], out.decode())
@@ -267,56 +287,54 @@ class Checks:
         page.wait("element('parting').textContent.includes('part at line')", 30)
         page.wait("document.querySelectorAll('#over-frames circle').length > 10", 60)
         self.holds(
-            "curves of both", page.js("document.querySelectorAll('#over-lines path').length === 2")
+            "curves of both", page.run("document.querySelectorAll('#over-lines path').length === 2")
         )
 
-    def stop(self, page: Page) -> None:
+    def stop(self, page: Browser) -> None:
         """A long run can be stopped, and the next one goes on as ever."""
-        page.js("view('frames')")
-        page.js(f"putText({json.dumps(bulk_script(60_000))})")
-        self.holds("a long script waits for the button", page.js("!busy"))
-        page.js("void start()")
+        page.run("view('frames')")
+        page.run(f"putText({json.dumps(bulk_script(60_000))})")
+        self.holds("a long script waits for the button", page.run("!busy"))
+        page.run("void start()")
         page.wait("element('run').textContent === 'Stop'", 30)
-        page.js("element('run').click()")
+        page.run("element('run').click()")
         page.wait("element('status').textContent === 'Stopped.'", 10)
         self.after(page, "putExample('first')")
-        self.same("the run after", page.js("run.answers[0]"), "ok 2")
+        self.same("the run after", page.run("run.answers[0]"), "ok 2")
 
-    def long(self, page: Page) -> None:
+    def long(self, page: Browser) -> None:
         """20,000 lines: no gap of the page's thread is too long. Time in which it only waited for a
         processor does not count; the best of three counts, since other work makes gaps too."""
         script, best = bulk_script(LINES - 20), 10_000.0
-        page.js(WATCH_GAPS)
+        page.run(WATCH_GAPS)
         for _ in range(3):
-            page.js("globalThis.gaps.length = 0")
+            page.run("globalThis.gaps.length = 0")
             ran, waited = page.work()
             self.after(page, f"putText({json.dumps(script)})")
             page.wait(SHOWN, 60)
             self.after(page, "editor.script.replaceRange('charge\\n', { line: 12000, ch: 0 })")
             time.sleep(1)
             ran, waited = [after - before for after, before in zip(page.work(), (ran, waited))]
-            longest = page.js("Math.max(0, ...globalThis.gaps)")
+            longest = page.run("Math.max(0, ...globalThis.gaps)")
             best = min(best, longest * ran / max(ran + waited, 1))
             if best <= LONGEST_GAP:
                 break
-        self.tried += 1
-        if best > LONGEST_GAP:
-            self.bad += 1
-            print(f"web: {LINES} lines: the page's thread was busy for {best:.0f} ms at once")
+        busy = "" if best <= LONGEST_GAP else f"{best:.0f} ms at once"
+        self.same(f"{LINES} lines: the page's thread is busy for too long", busy, "")
 
     def policy(self) -> None:
         """The page may fetch nothing: a fetch and an image are refused by its policy."""
         page = self.open()
         try:
             refused = "fetch('https://example.org/').then(() => 'fetched', () => 'refused')"
-            self.same("a fetch", page.js(refused), "refused")
-            self.same("an image", page.js(LOAD_IMAGE), "refused")
-            said = json.dumps(page.events)
+            self.same("a fetch", page.run(refused), "refused")
+            self.same("an image", page.run(LOAD_IMAGE), "refused")
+            said = "; ".join(page.said)
             self.holds(
                 "its policy refuses it", "Content Security Policy" in said and "default-src" in said
             )
-            page.js("1")
-            text = page.js("document.querySelector('meta[http-equiv]').content")
+            page.run("1")
+            text = page.run("document.querySelector('meta[http-equiv]').content")
             self.holds(
                 "no source of a network",
                 not re.search(r"https?:|\*|'self'|data:|connect-src", text),
@@ -326,15 +344,16 @@ class Checks:
 
     def sizes(self) -> None:
         """A phone, and a dark screen: the page is drawn, and nothing is written to the console."""
-        for what, size in (("a phone", {"width": 390, "height": 800}), ("dark", {"dark": True})):
-            page = self.open(**size)
+        phone = {"width": 390, "height": 800, "is_phone": True}
+        for what, size in (("a phone", phone), ("dark", {})):
+            page = self.open(is_dark=not size, **size)
             try:
-                wide = page.js("document.documentElement.scrollWidth <= innerWidth")
+                wide = page.run("document.documentElement.scrollWidth <= innerWidth")
                 self.holds(f"{what}: no line of the page is wider than the screen", wide)
                 for name in ("spaces", "second", "about", "frames"):
-                    page.js(f"view('{name}')")
+                    page.run(f"view('{name}')")
                     self.holds(
-                        f"{what}: {name} is seen", page.js(f"element('{name}').offsetWidth > 200")
+                        f"{what}: {name} is seen", page.run(f"element('{name}').offsetWidth > 200")
                     )
                 self.quiet(page, what)
             finally:
@@ -379,22 +398,22 @@ WATCH_GAPS = (
 )
 
 
-def hinted(page: Page) -> None:
+def hinted(page: Browser) -> None:
     """Waits for the list of what may be typed, until it rests as a person would. (A run that ends just
     then may close it: Ctrl+Space opens it again.)"""
     shown = "!!document.querySelector('.CodeMirror-hints')"
     for _ in range(5):
         time.sleep(0.6)
-        if page.js(shown):
+        if page.run(shown):
             return
-        page.press(" ", modifiers=2)
+        page.key(" ", modifiers=2)
     page.wait(shown, 10)
 
 
-def awaited(page: Page, text: str, part: str) -> str:
+def awaited(page: Browser, text: str, part: str) -> str:
     """The value of a text, once it has a part."""
     page.wait(f"({text}).includes({json.dumps(part)})", 20)
-    return page.js(text)
+    return page.run(text)
 
 
 def rewritten(plain: str, machine: Dict[str, Any]) -> str:
@@ -419,44 +438,40 @@ def bulk_script(lines: int) -> str:
     return "\n".join(head + body) + "\n"
 
 
-def check(path: str, native: Any, top: str, install: Callable) -> Tuple[int, int]:
+def check(path: str, native: Any, top: str) -> Tuple[int, int]:
     """How many things were compared in the browser, and how many are wrong."""
-    if os.environ.get("MELZUDEK_NO_BROWSER") == "1":
-        print("web: the browser is left out, as MELZUDEK_NO_BROWSER=1 says")
-        return 0, 0
-    if not find_browser():
-        install(["chromium"])
-    browser = find_browser()
-    if not browser:
+    try:
+        browser = find_browser()
+    except SystemExit:
         print("web: the browser is left out, since chromium cannot be had")
         return 0, 0
-    checks = Checks(f"file://{os.path.abspath(path)}", browser, native, top)
+    if not browser:
+        print("web: the browser is left out, as MELZUDEK_NO_BROWSER=1 says")
+        return 0, 0
+    checks = Checks(os.path.abspath(path), browser, native, top)
     whole = [checks.examples, checks.spaces, checks.mistakes, checks.typing, checks.linked]
-    whole += [checks.share, checks.files, checks.second, checks.stop, checks.long]
-    for one in whole:
-        run_one(checks, one)
-    for other in (checks.policy, checks.sizes):
-        guarded(checks, other)
+    whole += [checks.share, checks.files, checks.second, checks.stop]
+    acts = [partial(on_a_page, checks, one) for one in whole] + [checks.policy, checks.sizes]
+    with ThreadPoolExecutor(BROWSERS) as pool:
+        list(pool.map(partial(guarded, checks), acts))
+    guarded(checks, partial(on_a_page, checks, checks.long))  # by itself: it looks at the clock
     return checks.tried, checks.bad
 
 
-def run_one(checks: Checks, one: Callable[[Page], None]) -> None:
+def on_a_page(checks: Checks, one: Callable[[Browser], None]) -> None:
     """One check on a page of its own."""
-
-    def act() -> None:
-        page = checks.open()
-        try:
-            one(page)
-            checks.quiet(page, one.__name__)
-        finally:
-            page.close()
-
-    guarded(checks, act, one.__name__)
+    page = checks.open()
+    try:
+        one(page)
+        checks.quiet(page, one.__name__)
+    finally:
+        page.close()
 
 
-def guarded(checks: Checks, act: Callable[[], None], name: str = "") -> None:
+def guarded(checks: Checks, act: Any) -> None:
+    """One check, and what it is called where nothing came."""
+    name = act.args[1].__name__ if isinstance(act, partial) else act.__name__
     try:
         act()
-    except Trouble as trouble:
-        checks.bad += 1
-        print(f"web: {name or act.__name__}: {trouble}")
+    except BrowserError as trouble:
+        checks.same(name, str(trouble), "it comes to its end")

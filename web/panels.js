@@ -46,7 +46,11 @@ function makePanels({ data, survey, waits, view, regions, charge, shown }) {
     const { number, text, answer } = data.lines[view.line];
     const moves = survey.movesOf(number);
     const parts = {
-      line: lineOf(data.lines[view.line]) + listOf(regions.changes(number)) + movesOf(moves),
+      line:
+        lineOf(data.lines[view.line]) +
+        listOf(regions.changes(number)) +
+        movesOf(moves) +
+        unwrittenOf(data.lines[view.line], moves, state),
       state: `<h2>After line ${number}</h2>` + listsOf(state) + setsOf(state) + homesOf(state),
       history: view.followed ? historyOf(view.followed) : '',
     };
@@ -85,6 +89,16 @@ function makePanels({ data, survey, waits, view, regions, charge, shown }) {
     const title = `<summary>${spelled(moves.length)} moves, in their order</summary>`;
     const fold = `<details data-fold${open}>${title}${listOf(each)}</details>`;
     return listOf(items) + (moves.length > 1 ? fold : '');
+  }
+  // A writer that begins fewer write-outs than it might: the pages that are left have no slot to
+  // go to. Its answer is `ok` all the same.
+  function unwrittenOf({ kind, text }, moves, { lists, requests }) {
+    const begun = moves.filter(({ class: { word } }) => word === 'write').length;
+    const left = lists[MODIFIED].length;
+    const mayGoOn = begun < Number(text.split(' ')[1]) && requests.length < data.machine.depth;
+    if (kind !== 'writer' || !mayGoOn || !left) return '';
+    const pages = spelled(left) + (left > 1 ? ' modified pages are' : ' modified page is');
+    return `<p class="not-ok">No slot of the paging file is free: ${pages} not written.</p>`;
   }
   function turnOf(frame, moves) {
     const events = moves.filter(({ class: { group } }) => group in survey.numbers);

@@ -1,4 +1,4 @@
-"""The command `melzudek`: runs, traces, sweeps, comparisons, observations, pages, managed runs.
+"""The command `melzudek`: runs, traces, sweeps, comparisons, observations, pages, talks.
 
 Each part has `--help` with an example. What cannot be done is told in one sentence, and the status
 is 1; words that are no form of the command end with 2, and an interrupt with 130.
@@ -361,6 +361,21 @@ def do_page(given: Words) -> None:
     say(f"{to} is the page, {len(page):,} bytes: open it in a browser")
 
 
+# ---------------------------------------------------------------- talk
+
+
+def add_talk(parser: argparse.ArgumentParser) -> None:
+    add = parser.add_argument
+    add("script", metavar="SCRIPT", nargs="?", help="a script that is run before the first prompt")
+    add("--into", metavar="FOLDER", help="where script.mm, answers.out and moves.log are kept")
+
+
+def do_talk(given: Words) -> None:
+    from .talk import talk
+
+    talk(given.script, given.into)
+
+
 PARTS = (
     Part(
         "run",
@@ -410,6 +425,13 @@ PARTS = (
         "melzudek page examples/under-pressure.mm --to under-pressure.html",
         add_page,
         do_page,
+    ),
+    Part(
+        "talk",
+        "takes lines as people write them, and answers each with its moves in words",
+        "melzudek talk examples/lab.txt",
+        add_talk,
+        do_talk,
     ),
 )
 

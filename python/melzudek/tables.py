@@ -29,6 +29,7 @@ from .libraries import require
 from .names import ERROR, STATUS
 from .observe import observe
 from .scripts import ACCESSES, Script, read_script
+from .told import told_of
 
 require("pandas")
 import pandas  # noqa: E402  (what says which package has it comes first)
@@ -151,17 +152,9 @@ class Run:
 
     def words(self, line: int) -> str:
         """A line as `mmshow tell` tells it: its answer, its moves in words, and why."""
-        told: list[str] = []
         with self.say("tell", *self.texts) as said:
-            for row in said:
-                text = row.decode("latin-1").rstrip("\n")
-                if text.partition(" ")[0] == str(line):
-                    told = [text]
-                elif told and text[:1] != " ":
-                    break
-                elif told:
-                    told.append(text)
-        return "\n".join(told)
+            rows = (row.decode("latin-1").rstrip("\n") for row in said)
+            return "\n".join(told_of(rows, line))
 
     def save(self, folder: str | os.PathLike[str]) -> Path:
         """Copies the three files into a folder, and says which."""

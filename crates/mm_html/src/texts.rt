@@ -2226,7 +2226,11 @@ function show(state) {\n\
 const { number, text, answer } = data.lines[view.line];\n\
 const moves = survey.movesOf(number);\n\
 const parts = {\n\
-line: lineOf(data.lines[view.line]) + listOf(regions.changes(number)) + movesOf(moves),\n\
+line:\n\
+lineOf(data.lines[view.line]) +\n\
+listOf(regions.changes(number)) +\n\
+movesOf(moves) +\n\
+unwrittenOf(data.lines[view.line], moves, state),\n\
 state: `<h2>After line ${number}</h2>` + listsOf(state) + setsOf(state) + homesOf(state),\n\
 history: view.followed ? historyOf(view.followed) : '',\n\
 };\n\
@@ -2260,6 +2264,14 @@ const open = view.isUnfolded ? ' open' : '';\n\
 const title = `<summary>${spelled(moves.length)} moves, in their order</summary>`;\n\
 const fold = `<details data-fold${open}>${title}${listOf(each)}</details>`;\n\
 return listOf(items) + (moves.length > 1 ? fold : '');\n\
+}\n\
+function unwrittenOf({ kind, text }, moves, { lists, requests }) {\n\
+const begun = moves.filter(({ class: { word } }) => word === 'write').length;\n\
+const left = lists[MODIFIED].length;\n\
+const mayGoOn = begun < Number(text.split(' ')[1]) && requests.length < data.machine.depth;\n\
+if (kind !== 'writer' || !mayGoOn || !left) return '';\n\
+const pages = spelled(left) + (left > 1 ? ' modified pages are' : ' modified page is');\n\
+return `<p class=\"not-ok\">No slot of the paging file is free: ${pages} not written.</p>`;\n\
 }\n\
 function turnOf(frame, moves) {\n\
 const events = moves.filter(({ class: { group } }) => group in survey.numbers);\n\

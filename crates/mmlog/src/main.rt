@@ -21,7 +21,8 @@ The log is read from standard input:
   mmlog check < first.log
 
 Statuses: 0 the log replays; 1 memory was refused; 2 the words are no form; 3 a line is no legal
-move; 4 the log could not be read; 5 the answer could not be written; 8 the log is too long.";
+move; 4 the log could not be read; 5 the answer could not be written; 8 the log has more than
+1,000,000,000,000 bytes.";
 
 /// The program's forms, as its help and its mistakes tell them.
 fn command<'a>(alloc: Global) -> Result<Command<'a>, NoMemory> {

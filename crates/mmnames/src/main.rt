@@ -23,7 +23,7 @@ what is wrong to standard error. Without a word the whole file is translated:
 
 Statuses: 0 the script was written; 1 memory was refused; 2 the words are no form; 3 a line means
 nothing that may stand there; 4 the file could not be read; 5 the script could not be written; 8 the
-file or the script is too long.";
+file has more than 100,000,000 bytes, or the script more than 1,000,000 lines.";
 
 /// The program's forms, as its help and its mistakes tell them.
 fn command<'a>(alloc: Global) -> Result<Command<'a>, NoMemory> {

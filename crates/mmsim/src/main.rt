@@ -24,7 +24,8 @@ the log of page frames to standard error:
 
 Statuses: 0 ended well; 1 memory was refused; 2 the words are no form; 3 a line is no line of a
 script; 4 the script could not be read; 5 the answers could not be written; 6 the log could not be
-written; 7 a device could not be opened; 8 the script is too long.";
+written; 7 a device could not be opened; 8 a line has more than 256 bytes, or the script more than
+1,000,000 lines.";
 
 /// The program's forms, as its help and its mistakes tell them.
 fn command<'a>(alloc: Global) -> Result<Command<'a>, NoMemory> {
