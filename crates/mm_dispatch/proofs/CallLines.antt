@@ -75,12 +75,12 @@ module _ {G : Type 0} (p : PageStoreGhosts G) {n : ℕ} {t : Tables} {g m : G} {
         answered p said (record { decided = decided d; marked = was_noted a after h went }) (is.waits t a _) (λ paged. (is.asked _ a _ _ _ _ _ _, is.held a _ _ _ _)) (loans ∙ starts.loans)
 
     -- it may have run out of memory
-    takes-call : {after : Tables} {h : G} (r : Result Answer NoMemory) → IfOk r (λ a. AnswersCall p q t m a after h) → OnErr r (LacksMemory p t m after h) → IfOk r (λ a. p.unpaged ≡ false → WentAs k p e n t g a after h) → OnErr r (HaltedOver p n g h)
+    takes-call : {after : Tables} {h : G} (r : Result Answer NoMemory) → IfOk r (λ a. AnswersCall p q t m a after h) → OnErr r (LacksMemory p t m after h) → IfOk r (λ a. p.unpaged ≡ false → WentAs k p e n t g a after h) → OnErr r (HaltedOver p e n t g h)
         → (takes_memory blank t e ≡ false → IsOk r) → p.loans h ≡ p.loans m → TakesLine p f n t g (λ a. a) r after h
     takes-call {after} {h} r done broke went halted enough loans =
         made p said (by_result r done broke went halted enough) (λ a. is.waits t a _) (λ a paged. (is.asked _ a _ _ _ _ _ _, is.held a _ _ _ _))
       where
-        by_result : (r : Result Answer NoMemory) → IfOk r (λ a. AnswersCall p q t m a after h) → OnErr r (LacksMemory p t m after h) → IfOk r (λ a. p.unpaged ≡ false → WentAs k p e n t g a after h) → OnErr r (HaltedOver p n g h) → (takes_memory blank t e ≡ false → IsOk r) → MakesLine p e n t g r after h
+        by_result : (r : Result Answer NoMemory) → IfOk r (λ a. AnswersCall p q t m a after h) → OnErr r (LacksMemory p t m after h) → IfOk r (λ a. p.unpaged ≡ false → WentAs k p e n t g a after h) → OnErr r (HaltedOver p e n t g h) → (takes_memory blank t e ≡ false → IsOk r) → MakesLine p e n t g r after h
         by_result (Ok a) done broke went halted enough =
             record { done = record { decided = decided done; marked = was_noted a after h went }; broke = tt; no_memory = enough; loans = loans ∙ starts.loans }
         by_result (Err x) done broke went halted enough = record {
@@ -120,7 +120,7 @@ module _ {G : Type 0} (p : PageStoreGhosts G) {n : ℕ} {t : Tables} {g m : G} {
   takes-looking {after = after} r ok err enough settled does =
       let s = settled _ _ call.keeps.fits in
       takes-call p said is next starts across makes r (if-ok r ok (λ a h. looked h s.fits)) (if-err r err (λ same. record { tables = same; contents = refl; settled = s })) (each-ok r (λ a. alone a after (does a)))
-      (on_err r (halted_alone n kind.Call refl p.unpaged (p.store g) (p.store m) (p.behind g) (p.behind m) starts.passes)) enough refl
+      (on_err r (halted_alone (world_over p t g) e n kind.Call answer.Ok (is.kind_is answer.Ok) p.unpaged (p.store g) (p.store m) (p.behind g) (p.behind m) starts.passes)) enough refl
 
   module _ {after : Tables} {h : G} (r : Result Answer NoMemory) (done : IfOk r (λ a. AnswersCall p q t m a after h)) (broke : OnErr r (LacksMemory p t m after h)) (enough : takes_memory blank t e ≡ false → IsOk r) where
     -- keys come to be, which one turn tells
@@ -129,7 +129,7 @@ module _ {G : Type 0} (p : PageStoreGhosts G) {n : ℕ} {t : Tables} {g m : G} {
     makes-turns turn makes-all does passes idles loans =
         takes-call p said is next starts across makes r done broke
         (if-ok r passes (λ a q. marked_turn n kind.Call e (world_over p t g) a (world_over p after h) p.unpaged (p.store g) (p.store m) (p.store h) (p.behind g) (p.behind m) (p.behind h) (is.plain a (p.behind g)) (turn a) (makes-all a) (does a) starts.passes q))
-        (if-err r idles (halted_makes n kind.Call refl p.unpaged (p.store g) (p.store m) (p.store h) (p.behind g) (p.behind m) (p.behind h) starts.passes)) enough loans
+        (if-err r idles (halted_makes (world_over p t g) e n kind.Call answer.Ok (is.kind_is answer.Ok) p.unpaged (p.store g) (p.store m) (p.store h) (p.behind g) (p.behind m) (p.behind h) starts.passes)) enough loans
 
     pub makes-keys : ((a : Answer) (ms : List Move) → Turned Makes begun.life ms → Done a after h ms) → MakesPages p r m h → TakesLine p f n t g (λ a. a) r after h
     makes-keys does pages = makes-turns (λ a. Makes) (λ a ms all. all) does (each-ok r (λ a. pages.passes)) (on_err r pages.passes) pages.loans
@@ -139,7 +139,7 @@ module _ {G : Type 0} (p : PageStoreGhosts G) {n : ℕ} {t : Tables} {g m : G} {
     makes-none does idles =
         takes-call p said is next starts across makes r done broke
         (each-ok r (λ a. marked_still n kind.Call e (world_over p t g) a (world_over p after h) p.unpaged (p.store g) (p.store m) (p.store h) (p.behind g) (p.behind m) (p.behind h) (is.plain a (p.behind g)) (does a) starts.passes idles.passes))
-        (on_err r (halted_makes n kind.Call refl p.unpaged (p.store g) (p.store m) (p.store h) (p.behind g) (p.behind m) (p.behind h) starts.passes (idles.passes Makes))) enough idles.loans
+        (on_err r (halted_makes (world_over p t g) e n kind.Call answer.Ok (is.kind_is answer.Ok) p.unpaged (p.store g) (p.store m) (p.store h) (p.behind g) (p.behind m) (p.behind h) starts.passes (idles.passes Makes))) enough idles.loans
 
 -- of a line that asks devices for what is no move, nothing is told of devices
 pub unasked : (x : Move) (That : List Move → Type 0) (s z s' z' : StoreOf) (b c : Behind) → LineWent false x That s z b c → LineWent true x That s' z' b c
@@ -318,9 +318,9 @@ module _ (n count : ℕ) (w v : World) (s z : StoreOf) (b c : Behind) where
   marked_grow {E} u (Ok a) p = λ paging. grew_by E a (noted u (GrowsBy {E = E} n count (Ok a)) b c paging p)
   marked_grow u (Err e) p = tt
 
-  pub halted_grow : {E : Type 0} (u : Bool) (r : Result Answer E) → NotesIn u (GrowsBy n count r) b c → OnErr r (u ≡ false → Halted n b c)
+  pub halted_grow : {E : Type 0} (u : Bool) (r : Result Answer E) → NotesIn u (GrowsBy n count r) b c → OnErr r (u ≡ false → Halted w (event.Grow count) n b c)
   halted_grow u (Ok a) p = tt
-  halted_grow {E} u (Err e) p = λ paging. halted_none n b c (noted u (GrowsBy {E = E} n count (Err e)) b c paging p)
+  halted_grow {E} u (Err e) p = λ paging. halted_none w (event.Grow count) n b c (noted u (GrowsBy {E = E} n count (Err e)) b c paging p)
 
 -- calls are named to fail: nothing behind the store changes
 pub marked_fail : (n : ℕ) (e : Event) (w : World) (a : Answer) (v : World) (u : Bool) (s m z : StoreOf) (b y c : Behind) → Plain e w a b → Does w e a v z.report (with_line (move.At n kind.Call) b) [] c → c ≡ y → PassesIn u (OneMove (move.At n kind.Call)) s m b y → u ≡ false

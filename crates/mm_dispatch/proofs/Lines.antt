@@ -289,8 +289,7 @@ module _ {G : Type 0} (p : PageStoreGhosts G) (e : Event) (n : ℕ) (t : Tables)
   answers-line (Ok a) after h decided marked = record { decided = decided; marked = marked }
   answers-line (Err x) after h decided marked = tt
 
-module _ {G : Type 0} (p : PageStoreGhosts G) (n : ℕ) (t : Tables) (g : G) where
-  pub halts-line : (r : Result Answer NoMemory) (after : Tables) (h : G) → OnErr r (IdleOver p t g after h) → OnErr r (HaltedOver p n g h) → OnErr r (HaltsLine p n t g after h)
+  pub halts-line : (r : Result Answer NoMemory) (after : Tables) (h : G) → OnErr r (IdleOver p t g after h) → OnErr r (HaltedOver p e n t g h) → OnErr r (HaltsLine p e n t g after h)
   halts-line (Ok a) after h idle halted = tt
   halts-line (Err x) after h idle halted = record { idle = idle; halted = halted }
 

@@ -14,8 +14,8 @@ use Rattle.mm_store.specs.{IsEndedFirst, FlushesBy, FlushedAt, ends_lost, life_t
 use Rattle.mm_store.specs.{PassesIn, Notes, NotesIn}
 use Rattle.mm_store.specs.Housekeeping.{Ends}
 use Rattle.mm_store.specs.Leaving.{Leaving}
-use Rattle.mm_line_moves.specs.{TurnsOne, TurnsKeys, Does, with_line, ages_of_line, waits_of_line}
-use Rattle.mm_dispatch.specs.{keeps_keys, takes_away, EachMove, IsOneWay, LineWent, TellsLine, is_later, Halted}
+use Rattle.mm_line_moves.specs.{kind_of_line, TurnsOne, TurnsKeys, Does, with_line, ages_of_line, waits_of_line}
+use Rattle.mm_dispatch.specs.{keeps_keys, takes_away, EachMove, IsOneWay, LineWent, TellsLine, Halted}
 use Rattle.mm_move_rules.proofs.{home_lives}
 use Rattle.mm_dispatch.proofs.Begun.{passes_with, paged, begun_with, went_then, noted_then, went_alone}
 use Rattle.mm_store.specs.Flushing.{Flushing}
@@ -395,22 +395,23 @@ module _ (n : ℕ) (k : LineKind) (e : Event) (w : World) (a : Answer) (v : Worl
 abbrev Adds : Behind → Behind → List Move → Type 0
 Adds b c ms = AllTurn Makes ms × (c.slots ≡ b.slots)
 
-halted : (beside : Bool) (n : ℕ) (k : LineKind) (s z : StoreOf) (b c : Behind) → is_later k ≡ true → LineWent beside (move.At n k) (Adds b c) s z b c → Halted n b c
-halted beside n k s z b c later h =
-    record { piece = move.At n k ∷ h.moves; in_range = h.in_range; grew = h.grew; replays = h.replays; slots = h.that.1; cut = inr (k, (h.moves, (later, refl, h.that.0))) }
+module _ (w : World) (e : Event) (n : ℕ) (k : LineKind) (a : Answer) (is : kind_of_line w e a ≡ k) where
+  halted : (beside : Bool) (s z : StoreOf) (b c : Behind) → LineWent beside (move.At n k) (Adds b c) s z b c → Halted w e n b c
+  halted beside s z b c h =
+      record { piece = move.At n k ∷ h.moves; in_range = h.in_range; grew = h.grew; replays = h.replays; slots = h.that.1; cut = inr (a, (h.moves, (ap (λ (x : LineKind). move.At n x ∷ h.moves) (sym is), h.that.0))) }
 
-pub halted_makes : (n : ℕ) (k : LineKind) → is_later k ≡ true → (u : Bool) (s m z : StoreOf) (b y c : Behind) → PassesIn u (OneMove (move.At n k)) s m b y → PassesIn u (Turns Makes) m z y c → u ≡ false → Halted n b c
-halted_makes n k later u s m z b y c p q paging =
-    halted false n k s z b c later (went_then n k (Turns Makes) u s m z b y c (Adds b c) paging (λ log ms h. (h.turned.all, h.slots)) p q)
+  pub halted_makes : (u : Bool) (s m z : StoreOf) (b y c : Behind) → PassesIn u (OneMove (move.At n k)) s m b y → PassesIn u (Turns Makes) m z y c → u ≡ false → Halted w e n b c
+  halted_makes u s m z b y c p q paging =
+      halted false s z b c (went_then n k (Turns Makes) u s m z b y c (Adds b c) paging (λ log ms h. (h.turned.all, h.slots)) p q)
 
-pub halted_notes : (n : ℕ) (k : LineKind) → is_later k ≡ true → (u : Bool) (s m z : StoreOf) (b y c : Behind) → PassesIn u (OneMove (move.At n k)) s m b y → NotesIn u (Turns Makes) y c → u ≡ false → Halted n b c
-halted_notes n k later u s m z b y c p q paging =
-    halted true n k s z b c later (noted_then n k (Turns Makes) u s m z b y c (Adds b c) paging (λ log ms h. (h.turned.all, h.slots)) p q)
+  pub halted_notes : (u : Bool) (s m z : StoreOf) (b y c : Behind) → PassesIn u (OneMove (move.At n k)) s m b y → NotesIn u (Turns Makes) y c → u ≡ false → Halted w e n b c
+  halted_notes u s m z b y c p q paging =
+      halted true s z b c (noted_then n k (Turns Makes) u s m z b y c (Adds b c) paging (λ log ms h. (h.turned.all, h.slots)) p q)
 
-pub halted_alone : (n : ℕ) (k : LineKind) → is_later k ≡ true → (u : Bool) (s z : StoreOf) (b c : Behind) → PassesIn u (OneMove (move.At n k)) s z b c → u ≡ false → Halted n b c
-halted_alone n k later u s z b c p paging =
-    halted false n k s z b c later (went_alone n k u s z b c (Adds b c) paging (λ log same. (tt, ap (λ (x : Behind). x.slots) same)) p)
+  pub halted_alone : (u : Bool) (s z : StoreOf) (b c : Behind) → PassesIn u (OneMove (move.At n k)) s z b c → u ≡ false → Halted w e n b c
+  halted_alone u s z b c p paging =
+      halted false s z b c (went_alone n k u s z b c (Adds b c) paging (λ log same. (tt, ap (λ (x : Behind). x.slots) same)) p)
 
-pub halted_none : (n : ℕ) (b c : Behind) → Notes NoMove b c → Halted n b c
-halted_none n b c p =
+pub halted_none : (w : World) (e : Event) (n : ℕ) (b c : Behind) → Notes NoMove b c → Halted w e n b c
+halted_none w e n b c p =
     record { piece = p.moves; in_range = p.in_range; grew = p.grew; replays = p.replays; slots = ap (λ (x : Behind). x.slots) p.that.same; cut = inl p.that.none }

@@ -147,26 +147,31 @@ line-noted u e n t old s b a after new z c paging next fits keeps h h' beside m 
 
 -- ---- a line that ran out of memory
 
-module _ (old new : Key → Option Page) (s z : StoreOf) (b c : Behind) (same : new ≡ old) (h : PagingStands old s b) (h' : PagingStands new z c) where
-  cut_short : (n : ℕ) (piece : List Move) → Replays piece b.life c.life → IsCutLine n piece → (piece ≡ []) ⊎ ((k : LineKind) × (piece ≡ move.At n k ∷ []))
-  cut_short n piece r (inl e) = inl e
-  cut_short n piece r (inr (k, (ms, (later, is, makes)))) =
-      let r' = subst (λ (xs : List Move). Replays xs b.life c.life) is r in
-      let none = none_made ms (after_at b.life n k) c.life r'.1 makes (λ q. h'.live q ∙ ap (λ (f : Key → Option Page). is_some (f q)) same ∙ sym (h.live q) ∙ sym (at_live b.life n k later q)) in
-      inr (k, is ∙ ap (λ ms. move.At n k ∷ ms) none)
+module _ (w : World) (e : Event) (old new : Key → Option Page) (s z : StoreOf) (b c : Behind) (same : new ≡ old) (h : PagingStands old s b) (h' : PagingStands new z c) where
+  -- such a piece, with no key that came to be
+  abbrev IsAtMost : ℕ → List Move → Type 0
+  IsAtMost n piece = (piece ≡ []) ⊎ ((a : Answer) × (piece ≡ move.At n (kind_of_line w e a) ∷ []))
 
-  broken_by : (n : ℕ) → n ≡ s.line + 1 → Halted n b c → Broken b c
+  cut_short : (n : ℕ) (piece : List Move) → Replays piece b.life c.life → IsCutLine w e n piece → IsAtMost n piece
+  cut_short n piece r (inl x) = inl x
+  cut_short n piece r (inr (a, (ms, (is, makes)))) =
+      let k = kind_of_line w e a in
+      let r' = subst (λ (xs : List Move). Replays xs b.life c.life) is r in
+      let none = none_made ms (after_at b.life n k) c.life r'.1 makes (λ q. h'.live q ∙ ap (λ (f : Key → Option Page). is_some (f q)) same ∙ sym (h.live q) ∙ sym (at_live b.life n k (kind_later w e a) q)) in
+      inr (a, is ∙ ap (λ ms. move.At n k ∷ ms) none)
+
+  broken_by : (n : ℕ) → n ≡ s.line + 1 → Halted w e n b c → Broken w e b c
   broken_by n next m = record {
     piece = m.piece;
     in_range = m.in_range;
     grew = m.grew;
     replays = m.replays;
     slots = m.slots;
-    at_most = subst (λ (l : ℕ). (m.piece ≡ []) ⊎ ((k : LineKind) × (m.piece ≡ move.At l k ∷ []))) (next ∙ ap (λ l. l + 1) (sym h.line)) (cut_short n m.piece m.replays m.cut);
+    at_most = subst (λ (l : ℕ). IsAtMost l m.piece) (next ∙ ap (λ l. l + 1) (sym h.line)) (cut_short n m.piece m.replays m.cut);
   }
 
-pub line-broken : (u : Bool) (n : ℕ) (old new : Key → Option Page) (s z : StoreOf) (b c : Behind) → u ≡ false → n ≡ s.line + 1 → new ≡ old → StandsIn u old s b → StandsIn u new z c → HaltedIn u n b c → Broken b c
-line-broken u n old new s z b c paging next same h h' m = broken_by old new s z b c same (stands u old s b paging h) (stands u new z c paging h') n next (m paging)
+pub line-broken : (u : Bool) (w : World) (e : Event) (n : ℕ) (old new : Key → Option Page) (s z : StoreOf) (b c : Behind) → u ≡ false → n ≡ s.line + 1 → new ≡ old → StandsIn u old s b → StandsIn u new z c → HaltedIn u w e n b c → Broken w e b c
+line-broken u w e n old new s z b c paging next same h h' m = broken_by w e old new s z b c same (stands u old s b paging h) (stands u new z c paging h') n next (m paging)
 
 -- ---- the promise
 
@@ -254,14 +259,14 @@ module _ (u : Bool) (n : ℕ) (t : Tables) (old : Key → Option Page) (s : Stor
         );
       }
 
-  pub breaks : Standing → Idle t old s after new z → HaltedIn u n b c → Breaks u before behind
-  breaks h i halted = record {
+  pub breaks : (e : Event) → Standing → Idle t old s after new z → HaltedIn u (world_with t (key_bytes old)) e n b c → Breaks u before e behind
+  breaks e h i halted = record {
     sound = sound h;
     world = λ j. world_with (i.tables j) (key_bytes (i.contents j));
     paging = i.paging;
     files = i.files;
     blocks = i.blocks;
-    broken = λ paging. line-broken u n old new s z b c paging h.next i.contents h.stands h.stands_after halted;
+    broken = λ paging. line-broken u (world_with t (key_bytes old)) e n old new s z b c paging h.next i.contents h.stands h.stands_after halted;
   }
 
 -- ---- results

@@ -67,15 +67,16 @@ module _ {G : Type 0} (p : PageStoreGhosts G) where
     pub marked : MarkedOver p e line t g a after h
 
   -- it ran out of memory
-  pub record HaltsLine (line : ℕ) (t : Tables) (g : G) (after : Tables) (h : G) : Type 0 where
+  pub record HaltsLine (e : Event) (line : ℕ) (t : Tables) (g : G) (after : Tables) (h : G) :
+      Type 0 where
     pub idle : IdleOver p t g after h
-    pub halted : HaltedOver p line g h
+    pub halted : HaltedOver p e line t g h
 
   -- it was decided, which gave this answer, or it ran out of memory, as only lines do that take it
   pub record MakesLine (e : Event) (line : ℕ) (t : Tables) (g : G) (result : Result Answer NoMemory)
       (after : Tables) (h : G) : Type 0 where
     pub done : IfOk result (λ a. AnswersLine e line t g a after h)
-    pub broke : OnErr result (HaltsLine line t g after h)
+    pub broke : OnErr result (HaltsLine e line t g after h)
     pub no_memory : takes_memory blank t e ≡ false → IsOk result
     pub loans : p.loans h ≡ p.loans g
 
@@ -83,7 +84,7 @@ module _ {G : Type 0} (p : PageStoreGhosts G) where
   pub record TakesLine {T : Type 0} (e : Event) (line : ℕ) (t : Tables) (g : G) (given : T → Answer)
       (result : Result T NoMemory) (after : Tables) (h : G) : Type 0 where
     pub done : IfOk result (λ v. AnswersLine e line t g (given v) after h)
-    pub broke : OnErr result (HaltsLine line t g after h)
+    pub broke : OnErr result (HaltsLine e line t g after h)
     pub no_memory : takes_memory blank t e ≡ false → IsOk result
     pub waits : IfOk result (λ v. EndsWaits t e (given v) (p.store h).report)
     pub beside : p.unpaged ≡ false → IfOk result (λ v. AskedBesideOver p t e (given v) g h)

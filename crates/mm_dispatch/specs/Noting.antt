@@ -87,23 +87,24 @@ abbrev pub is_later : LineKind → Bool
 is_later (kind.Machine frames slots depth blocks) = false
 is_later _ = true
 
--- no move, or an `at` of the line's number, and after it keys that came to be
-abbrev pub IsCutLine : ℕ → List Move → Type 0
-IsCutLine n piece = (piece ≡ []) ⊎
-    ((k : LineKind) ×
+-- no move, or an `at` of the line's number, of a kind that some answer to it gives, and after it
+-- keys that came to be
+abbrev pub IsCutLine : World → Event → ℕ → List Move → Type 0
+IsCutLine w e n piece = (piece ≡ []) ⊎
+    ((a : Answer) ×
     ((moves : List Move) ×
-    ((is_later k ≡ true) × (piece ≡ move.At n k ∷ moves) × AllTurn Makes moves)))
+    ((piece ≡ move.At n (kind_of_line w e a) ∷ moves) × AllTurn Makes moves)))
 
-pub record Halted (n : ℕ) (b c : Behind) : Type 0 where
+pub record Halted (w : World) (e : Event) (n : ℕ) (b c : Behind) : Type 0 where
   pub piece : List Move
   pub in_range : AreMoves piece
   pub grew : Grew b.log c.log (spelled_moves piece)
   pub replays : Replays piece b.life c.life
   pub slots : c.slots ≡ b.slots
-  pub cut : IsCutLine n piece
+  pub cut : IsCutLine w e n piece
 
-abbrev pub HaltedIn : Bool → ℕ → Behind → Behind → Type 0
-HaltedIn unpaged n b c = unpaged ≡ false → Halted n b c
+abbrev pub HaltedIn : Bool → World → Event → ℕ → Behind → Behind → Type 0
+HaltedIn unpaged w e n b c = unpaged ≡ false → Halted w e n b c
 
 -- ---- waits that are forgotten
 

@@ -54,5 +54,5 @@ module _ {G : Type 0} (p : PageStoreGhosts G) where
   abbrev pub IdleOver : Tables → G → Tables → G → Type 0
   IdleOver t g after h = Idle t (p.contents g) (p.store g) after (p.contents h) (p.store h)
 
-  abbrev pub HaltedOver : ℕ → G → G → Type 0
-  HaltedOver n g h = HaltedIn p.unpaged n (p.behind g) (p.behind h)
+  abbrev pub HaltedOver : Event → ℕ → Tables → G → G → Type 0
+  HaltedOver e n t g h = HaltedIn p.unpaged (world_over t g) e n (p.behind g) (p.behind h)

@@ -107,11 +107,11 @@ pub record Decides (never_fails : Bool) (s : Scene) (e : Event) (a : Answer) (z 
 
 -- ---- a line that ran out of memory
 
--- It changed nothing but the log, which has its `at` alone or no move of it.
-pub record Breaks (never_fails : Bool) (s z : Scene) : Type 0 where
+-- It changed nothing but the log, which has its `at` alone, of its own kind, or no move of it.
+pub record Breaks (never_fails : Bool) (s : Scene) (e : Event) (z : Scene) : Type 0 where
   pub sound : StaysSound never_fails s z
   pub world : z.world ≡ s.world
   pub paging : z.paging ≡ s.paging
   pub files : z.files ≡ s.files
   pub blocks : z.blocks ≡ s.blocks
-  pub broken : never_fails ≡ false → Broken s.behind z.behind
+  pub broken : never_fails ≡ false → Broken s.world e s.behind z.behind

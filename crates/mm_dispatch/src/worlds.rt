@@ -105,7 +105,8 @@ impl<G: PageStore> World<G> {
         requires ready { self.old.spent ≡ false }
         ensures decided { OnOk result
             (Decides G.unpaged (scene self.old) event.now answer.new (scene self.new)) }
-        ensures broke { OnErr result (Breaks G.unpaged (scene self.old) (scene self.new)) }
+        ensures broke { OnErr result
+            (Breaks G.unpaged (scene self.old) event.now (scene self.new)) }
         ensures no_memory { takes_memory filled (world self.old) event.now ≡ false → IsOk result }
         ensures line { OnOk result (line_number self.new ≡ line) }
         ensures ready { OnOk result (self.new.spent ≡ false) }

@@ -1,7 +1,7 @@
 -- What a line does to the life of the frames, by the worlds and the reports before and after it.
 -- Profile, "Which frame moves, and when".
 use Rattle.std.specs.Prelude.{◌≡◌, ◌≤◌, ◌<◌, ◌⊎◌, ℕ, ◌+◌, ◌-◌, ◌==◌, Bool, true, false, not, if◌then◌else◌, is_some, List, [], ◌∷◌, ◌++◌, length, map, replicate, slice_get, Option, Some, None, option_map, option_and_then, unwrap_or}
-use Rattle.mm_types.specs.{Answer, Event, Held, Move, Frame, Key, Pid, Place, View, Kind, Range, LineKind}
+use Rattle.mm_types.specs.{Answer, Event, Held, Move, Frame, Key, Pid, Place, View, Kind, Range}
 use Rattle.mm_types.specs.declared.answers.Answer.TheVariants as answer
 use Rattle.mm_types.specs.declared.answers.Why.TheVariants as why
 use Rattle.mm_types.specs.declared.codes.Raise.TheVariants as raise
@@ -273,11 +273,12 @@ pub record LineNoted (w : World) (before : Report) (b : Behind) (paging files : 
   pub replays : Replays piece b.life c.life
   pub line : Line w before b paging files blocks e a piece v after c paging' files' blocks'
 
--- A line that ran out of memory: its `at` alone, of whatever kind, or none.
-pub record Broken (b c : Behind) : Type 0 where
+-- A line that ran out of memory: its `at` alone, of a kind that some answer to it gives, or none.
+pub record Broken (w : World) (e : Event) (b c : Behind) : Type 0 where
   pub piece : List Move
   pub in_range : AreMoves piece
   pub grew : Grew b.log c.log (spelled_moves piece)
   pub replays : Replays piece b.life c.life
   pub slots : c.slots ≡ b.slots
-  pub at_most : (piece ≡ []) ⊎ ((k : LineKind) × (piece ≡ move.At (b.life.line + 1) k ∷ []))
+  pub at_most : (piece ≡ []) ⊎
+      ((a : Answer) × (piece ≡ move.At (b.life.line + 1) (kind_of_line w e a) ∷ []))

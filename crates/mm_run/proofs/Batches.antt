@@ -65,7 +65,7 @@ module _ (s z : Stage) (es left : List Event) (ok none : ℕ) (h : Handled s es 
     wants = λ q. subst (λ (x : Stage). HeadWantsMemory left x end) h.end_is (wants q);
   }
 
-  pub stopped_memory : (end : Stage) → Follows z end ⊎ BreaksOff z end → HeadWantsMemory left z end → Stopped s (es ++ left) ending.NoMemory end
+  pub stopped_memory : (end : Stage) → Follows z end ⊎ ((e : Event) × BreaksOff e z end) → HeadWantsMemory left z end → Stopped s (es ++ left) ending.NoMemory end
   stopped_memory end closes wants = stopped_by ending.NoMemory end (inl refl) closes (λ q. cc) (λ q. wants)
 
   pub stopped_moves : (end : Stage) (e : Event) (a : Answer) (rest : List Event) → left ≡ e ∷ rest → Moved z e a end → (log_of end).failed ≡ true → Stopped s (es ++ left) ending.MovesFault end
@@ -89,10 +89,10 @@ pub stopped_next : (s : Stage) (z y : Scene) (es left : List Event) (ok none : �
     → IsUnanswered z event e y → Stopped s (es ++ left) e (Running y)
 stopped_next s z y es left ok none event e rest head h some (inl b) =
     subst (λ (k : Ending). Stopped s (es ++ left) k (Running y)) (sym b.0)
-    (stopped_memory s (Running z) es left ok none h some (Running y) (inr (off b.1.breaks))
+    (stopped_memory s (Running z) es left ok none h some (Running y) (inr (event, off b.1.breaks))
     (record { event = event; rest = rest; head = head; takes = b.1.takes; breaks = off b.1.breaks }))
   where
-    off : BreaksLine z y → BreaksOff (Running z) (Running y)
+    off : BreaksLine z event y → BreaksOff event (Running z) (Running y)
     off breaks = record { before = Running z; follows = follows_here (Running z); breaks = breaks }
 stopped_next s z y es left ok none event e rest head h some (inr m) =
     subst (λ (k : Ending). Stopped s (es ++ left) k (Running y)) (sym m.0)

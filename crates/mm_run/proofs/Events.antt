@@ -11,7 +11,7 @@ decided_of n old (l ∷ ls) u = (record { follows = u.0.follows; decided = u.0.d
 pub closed_of : (e : Ending) (n : ℕ) (front : Text) (last end : Stage) → ClosesRun e n front last end → ClosesEvents e last end
 closed_of ending.NoMemory n front last end h = elim h.broken [
   | inl m ↦ inl m.1
-  | inr m ↦ inr m.1
+  | inr m ↦ inr (h.event, m.1)
 ]
 closed_of ending.MovesFault n front last end (inl h) = inl h
 closed_of ending.MovesFault n front last end (inr m) = inr (record {

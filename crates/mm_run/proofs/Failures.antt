@@ -173,14 +173,14 @@ first_calm o e a ms s b r =
 
 -- ---- the end
 
-breaks_later : (s : Scene) (before end : Stage) → Follows (Running s) before → BreaksAt before end → LaterAt s end
-breaks_later s (NotBegun f) end h b = absurd b
-breaks_later s (Running m) (NotBegun f) h b = absurd b
-breaks_later s (Running m) (Running z) h b = later_on s m z (follows_later s (Running m) h) (later_same m z b.paging b.files)
+breaks_later : (s : Scene) (e : Event) (before end : Stage) → Follows (Running s) before → BreaksAt e before end → LaterAt s end
+breaks_later s e (NotBegun f) end h b = absurd b
+breaks_later s e (Running m) (NotBegun f) h b = absurd b
+breaks_later s e (Running m) (Running z) h b = later_on s m z (follows_later s (Running m) h) (later_same m z b.paging b.files)
 
 closes_later : (s : Scene) (e : Ending) (end : Stage) → ClosesEvents e (Running s) end → LaterAt s end
 closes_later s ending.NoMemory end (inl h) = follows_later s end h
-closes_later s ending.NoMemory end (inr b) = breaks_later s b.before end b.follows b.breaks
+closes_later s ending.NoMemory end (inr b) = breaks_later s b.0 b.1.before end b.1.follows b.1.breaks
 closes_later s ending.MovesFault end (inl h) = follows_later s end h
 closes_later s ending.MovesFault end (inr m) =
     subst (λ (x : Stage). LaterAt s x) (sym m.after) (decided_later s m.line.before m.line.after m.line.event m.line.answer m.line.moves m.next.follows m.next.decided)

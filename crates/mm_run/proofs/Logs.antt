@@ -1,7 +1,7 @@
 -- What the sink of moves took in a run, and what its devices hold at the end.
 use Rattle.std.proofs.Common.{◌≡◌, ◌≢◌, ◌≤◌, ℕ, arith, List, [], ◌∷◌, ◌++◌, Option, Some, None, refl, sym, ap, ◌∙◌, subst, inl, inr, append_assoc}
 use Rattle.std.specs.Prelude.{Bool, true, false}
-use Rattle.mm_types.specs.{Appended, Text, Move}
+use Rattle.mm_types.specs.{Appended, Text, Event, Move}
 use Rattle.mm_types.proofs.{append_nil, appended_none, appended_then, rose_later, rose_then}
 use Rattle.mm_move_rules.specs.{FrameLife, unstarted, LogGrew, AreMoves, spelled_moves, Replays}
 use Rattle.mm_move_rules.proofs.{replays_then, spelled-append, moves-append}
@@ -149,16 +149,16 @@ module _ (old last : Stage) (moves : List Move) (l : Logged old moves last) (sta
         ]);
       }
 
-  break_notes : (e : Ending) (mid end : Stage) → e ≡ ending.NoMemory → Follows last mid → BreaksAt mid end → LogRan (log_of old).bytes (log_of end).bytes (log_of old).faults (log_of end).faults moves e last end
-  break_notes e (NotBegun o) end q h b = absurd b
-  break_notes e (Running s) (NotBegun o) q h b = absurd b
-  break_notes e (Running s) (Running z) q h b =
+  break_notes : (e : Ending) (event : Event) (mid end : Stage) → e ≡ ending.NoMemory → Follows last mid → BreaksAt event mid end → LogRan (log_of old).bytes (log_of end).bytes (log_of old).faults (log_of end).faults moves e last end
+  break_notes e event (NotBegun o) end q h b = absurd b
+  break_notes e event (Running s) (NotBegun o) q h b = absurd b
+  break_notes e event (Running s) (Running z) q h b =
       let p = b.broken refl in
       log_more e (Running s) (Running z) p.piece h (record { in_range = p.in_range; grew = p.grew; replays = p.replays }) (λ n m. n q)
 
   pub log_closed : (e : Ending) (end : Stage) → ClosesEvents e last end → LogRan (log_of old).bytes (log_of end).bytes (log_of old).faults (log_of end).faults moves e last end
   log_closed ending.NoMemory end (inl h) = log_whole ending.NoMemory end h
-  log_closed ending.NoMemory end (inr b) = break_notes ending.NoMemory b.before end refl b.follows b.breaks
+  log_closed ending.NoMemory end (inr b) = break_notes ending.NoMemory b.0 b.1.before end refl b.1.follows b.1.breaks
   log_closed ending.MovesFault end (inl h) = log_whole ending.MovesFault end h
   log_closed ending.MovesFault end (inr m) =
       subst (λ (z : Stage). LogRan (log_of old).bytes (log_of z).bytes (log_of old).faults (log_of z).faults moves ending.MovesFault last z) (sym m.after)

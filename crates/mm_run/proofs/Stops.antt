@@ -65,12 +65,12 @@ module _ (held : Text) (len n : ℕ) (h : HasLine held len) (small : n < 1000000
       (refl, small, inl (record { line = take len held; is_line = is_line; whole = refl; place = p; refused = r })) few (λ ks. refl) (follows_here w) (grows_here w)
 
   pub came_memory : (a t : Option Text) (kept : Text) (w end : Stage) (event : Event) → reading_of n (take len held) ≡ Ok event → IsLineFor (take len held) event
-      → ((is_machine event ≡ true) × Follows w end) ⊎ (TakesMemory w event × BreaksOff w end) → LogGrows w end → CameToEnd (outside a t kept) (outside a t kept) (stand held n w) ending.NoMemory end
+      → ((is_machine event ≡ true) × Follows w end) ⊎ (TakesMemory w event × BreaksOff event w end) → LogGrows w end → CameToEnd (outside a t kept) (outside a t kept) (stand held n w) ending.NoMemory end
   came_memory a t kept w end event says grammar broken grows =
       came_here a a t kept held held n w end _ (with_line_feed (take len held)) _ (filled_none a held) split (omega arith) width few (λ ks. refl)
       (record { line = take len held; event = event; whole = refl; says = record { is_line = is_line; says = says; grammar = grammar }; broken = broken }) grows
 
-  pub came_broken : (a t : Option Text) (kept : Text) (s z : Scene) (event : Event) → reading_of n (take len held) ≡ Ok event → IsLineFor (take len held) event → TakesMemory (Running s) event → BreaksLine s z
+  pub came_broken : (a t : Option Text) (kept : Text) (s z : Scene) (event : Event) → reading_of n (take len held) ≡ Ok event → IsLineFor (take len held) event → TakesMemory (Running s) event → BreaksLine s event z
       → CameToEnd (outside a t kept) (outside a t kept) (stand held n (Running s)) ending.NoMemory (Running z)
   came_broken a t kept s z event says grammar takes b =
       let p = b.broken refl in

@@ -75,7 +75,7 @@ pub record WantsEvent (left : List Event) (last end : Stage) : Type 0 where
   pub rest : List Event
   pub head : left ≡ event ∷ rest
   pub takes : TakesMemory last event
-  pub breaks : BreaksOff last end
+  pub breaks : BreaksOff event last end
 
 -- Or there is no machine yet, whose making takes memory.
 abbrev pub HeadWantsMemory : List Event → Stage → Stage → Type 0
@@ -85,7 +85,8 @@ HeadWantsMemory left (Running s) end = WantsEvent left (Running s) end
 -- After the last event nothing happened, but that one ran out of memory, or could not note all its
 -- moves.
 abbrev pub ClosesEvents : Ending → Stage → Stage → Type 0
-ClosesEvents ending.NoMemory last end = Follows last end ⊎ BreaksOff last end
+ClosesEvents ending.NoMemory last end = Follows last end ⊎
+    ((e : Event) × BreaksOff e last end)
 ClosesEvents ending.MovesFault last end = Follows last end ⊎ MutesEvent last end
 ClosesEvents _ last end = Follows last end
 

@@ -24,15 +24,15 @@ pub record Mutes (n : ℕ) (front : Text) (last end : Stage) : Type 0 where
   pub after : end ≡ line.after
 
 -- A line ran out of memory.
-abbrev pub BreaksAt : Stage → Stage → Type 0
-BreaksAt (NotBegun o) end = ⊥
-BreaksAt (Running s) (NotBegun o) = ⊥
-BreaksAt (Running s) (Running z) = BreaksLine s z
+abbrev pub BreaksAt : Event → Stage → Stage → Type 0
+BreaksAt e (NotBegun o) end = ⊥
+BreaksAt e (Running s) (NotBegun o) = ⊥
+BreaksAt e (Running s) (Running z) = BreaksLine s e z
 
-pub record BreaksOff (last end : Stage) : Type 0 where
+pub record BreaksOff (e : Event) (last end : Stage) : Type 0 where
   pub before : Stage
   pub follows : Follows last before
-  pub breaks : BreaksAt before end
+  pub breaks : BreaksAt e before end
 
 -- The line may take memory in the world that there is.
 abbrev pub TakesMemory : Stage → Event → Type 0
@@ -47,7 +47,7 @@ pub record WantsMemory (n : ℕ) (front : Text) (last end : Stage) : Type 0 wher
   pub whole : front ≡ with_line_feed line
   pub says : LineSays n line event
   pub broken : ((is_machine event ≡ true) × Follows last end)
-      ⊎ (TakesMemory last event × BreaksOff last end)
+      ⊎ (TakesMemory last event × BreaksOff event last end)
 
 -- Nothing happened, but that a line ran out of memory, or could not note all its moves.
 abbrev pub ClosesRun : Ending → ℕ → Text → Stage → Stage → Type 0

@@ -96,7 +96,7 @@ pub record KeepsWorld (v w : WorldSeen) : Type 0 where
 
 -- Memory ran out in a line that may take some.
 pub record RunsShort (s : Scene) (event : Event) (z : Scene) : Type 0 where
-  pub breaks : BreaksLine s z
+  pub breaks : BreaksLine s event z
   pub takes : TakesMemory (Running s) event
 
 -- From n lines on, with these bytes held, a run has come to where more lines are decided, and other

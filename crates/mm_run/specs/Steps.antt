@@ -131,7 +131,7 @@ pub record Moved (old : Stage) (e : Event) (a : Answer) (new : Stage) : Type 0 w
   pub moves : List Move
   pub decided : IsDecided old e a moves new
 
--- A line ran out of memory: it noted its `at` alone or nothing, and world and devices are as
--- before.
-abbrev pub BreaksLine : Scene → Scene → Type 0
-BreaksLine s z = WorldBreaks false s z
+-- A line ran out of memory: it noted its `at` alone, of its own kind, or nothing, and world and
+-- devices are as before.
+abbrev pub BreaksLine : Scene → Event → Scene → Type 0
+BreaksLine s e z = WorldBreaks false s e z

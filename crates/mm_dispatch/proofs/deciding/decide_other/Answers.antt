@@ -1,4 +1,5 @@
 use Rattle.std.proofs.Common.{rules, refl, sym, subst, ap, inr, ◌∙◌, ◌+◌, ◌&&◌, nat_lt, Option}
+use Rattle.mm_types.specs.declared.answers.Answer.TheVariants as answer
 use Rattle.mm_types.specs.declared.events.Event.TheVariants as event
 use Rattle.mm_types.specs.declared.moves.LineKind.TheVariants as kind
 use Rattle.mm_types.specs.declared.moves.Move.TheVariants as move
@@ -29,7 +30,7 @@ returns-in-Grow g c =
           (if-ok call.result call.ensures.done (λ a h.
           grow-line g.G.PageStore.unpaged c.in-Grow.slots c.args.line t old s a call.new.t new z c.requires.can.next.keeps c.requires.can.next.line_is h.told h.contents h.fits h.rest h.report h.line_is h.cause h.faults))
           (marked_grow c.args.line c.in-Grow.slots (world_with c.args.t.now (key_bytes (g.G.PageStore.contents c.args.g.now))) (world_with call.new.t (key_bytes (g.G.PageStore.contents call.new.g))) (g.G.PageStore.store c.args.g.now) (g.G.PageStore.store call.new.g) (g.G.PageStore.behind c.args.g.now) (g.G.PageStore.behind call.new.g) g.G.PageStore.unpaged call.result call.ensures.notes);
-      broke = halts-line g.G.PageStore c.args.line c.args.t.now c.args.g.now call.result call.new.t call.new.g
+      broke = halts-line g.G.PageStore (event.Grow c.in-Grow.slots) c.args.line c.args.t.now c.args.g.now call.result call.new.t call.new.g
           (if-err call.result call.ensures.broke (λ h. idle-grown h.contents h.store h.tables))
           (halted_grow c.args.line c.in-Grow.slots (world_with c.args.t.now (key_bytes (g.G.PageStore.contents c.args.g.now))) (world_with call.new.t (key_bytes (g.G.PageStore.contents call.new.g))) (g.G.PageStore.store c.args.g.now) (g.G.PageStore.store call.new.g) (g.G.PageStore.behind c.args.g.now) (g.G.PageStore.behind call.new.g) g.G.PageStore.unpaged call.result call.ensures.notes);
       no_memory = call.ensures.no_memory;
@@ -67,7 +68,7 @@ returns-in-File g c =
       });
       broke = if-err call.result call.ensures.broke (λ h. record {
         idle = idle-still c.begin_call.ensures.starts.begins c.begin_call.ensures.starts.contents h.store h.tables h.contents;
-        halted = halted_notes c.args.line kind.Call refl g.G.PageStore.unpaged (g.G.PageStore.store c.args.g.now) (g.G.PageStore.store c.begin_call.new.g) (g.G.PageStore.store call.new.g) (g.G.PageStore.behind c.args.g.now) (g.G.PageStore.behind c.begin_call.new.g) (g.G.PageStore.behind call.new.g) c.begin_call.ensures.starts.passes call.ensures.notes;
+        halted = halted_notes (world_with t (key_bytes old)) e c.args.line kind.Call answer.Ok refl g.G.PageStore.unpaged (g.G.PageStore.store c.args.g.now) (g.G.PageStore.store c.begin_call.new.g) (g.G.PageStore.store call.new.g) (g.G.PageStore.behind c.args.g.now) (g.G.PageStore.behind c.begin_call.new.g) (g.G.PageStore.behind call.new.g) c.begin_call.ensures.starts.passes call.ensures.notes;
       });
       no_memory = call.ensures.no_memory;
       loans = call.ensures.loans ∙ c.begin_call.ensures.starts.loans;

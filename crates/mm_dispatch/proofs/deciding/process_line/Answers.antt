@@ -59,7 +59,7 @@ returns g c =
       });
       broke = if-err c.new_process.result c.new_process.ensures.broke (λ h. record {
         idle = idle-still (begins-line _ _ _ _ c.line.ensures.store) c.line.ensures.contents h.store h.tables h.contents;
-        halted = halted_makes c.args.line (kind.Process c.in-Some.pid c.args.min c.args.max) refl g.G.PageStore.unpaged (g.G.PageStore.store c.args.g.now) (g.G.PageStore.store c.line.new.self) (g.G.PageStore.store c.new_process.new.g) (g.G.PageStore.behind c.args.g.now) (g.G.PageStore.behind c.line.new.self) (g.G.PageStore.behind c.new_process.new.g) c.line.ensures.passes (c.new_process.ensures.idles.passes Makes);
+        halted = halted_makes (world_with t (key_bytes old)) (event.Process c.args.min c.args.max) c.args.line (kind.Process c.in-Some.pid c.args.min c.args.max) (answer.NewProcess c.in-Some.pid) refl g.G.PageStore.unpaged (g.G.PageStore.store c.args.g.now) (g.G.PageStore.store c.line.new.self) (g.G.PageStore.store c.new_process.new.g) (g.G.PageStore.behind c.args.g.now) (g.G.PageStore.behind c.line.new.self) (g.G.PageStore.behind c.new_process.new.g) c.line.ensures.passes (c.new_process.ensures.idles.passes Makes);
       });
       no_memory = call.ensures.no_memory;
       loans = call.ensures.idles.loans ∙ c.line.ensures.loans;

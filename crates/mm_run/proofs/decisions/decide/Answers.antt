@@ -44,7 +44,7 @@ pub returns-in-Err-clause-came : goal.returns-in-Err-clause-came
 returns-in-Err-clause-came g c = inl (
   refl,
   record {
-    breaks = subst (λ (u : Bool). Breaks u (scene c.args.world.now) (scene c.step-decided.new.self)) c.requires.ready.begun.paged c.in-Err.ensures.broke;
+    breaks = subst (λ (u : Bool). Breaks u (scene c.args.world.now) c.args.event.now (scene c.step-decided.new.self)) c.requires.ready.begun.paged c.in-Err.ensures.broke;
     takes = taken (takes_memory filled (world c.args.world.now) c.args.event.now) c.in-Err.ensures.no_memory;
   },
 )
@@ -55,7 +55,7 @@ returns-in-Err-clause-came g c = inl (
 
 pub returns-in-Err-clause-faults : goal.returns-in-Err-clause-faults
 returns-in-Err-clause-faults g c = λ s o.
-    let breaks : Breaks false (scene c.args.world.now) (scene c.step-decided.new.self) = subst (λ (u : Bool). Breaks u (scene c.args.world.now) (scene c.step-decided.new.self)) c.requires.ready.begun.paged c.in-Err.ensures.broke in
+    let breaks : Breaks false (scene c.args.world.now) c.args.event.now (scene c.step-decided.new.self) = subst (λ (u : Bool). Breaks u (scene c.args.world.now) c.args.event.now (scene c.step-decided.new.self)) c.requires.ready.begun.paged c.in-Err.ensures.broke in
     ((breaks.broken refl).grew.later, refl)
 
 pub returns-then-moves_failed-clause-came : goal.returns-then-moves_failed-clause-came

@@ -21,7 +21,7 @@ returns-clause-broke g c =
     let p = g.G.PageStore in
     at-err d.result (λ x q.
     breaks p.unpaged c.args.line w.tables (p.contents w.pages) (p.store w.pages) (p.behind w.pages)
-    d.new.t (p.contents d.new.g) (p.store d.new.g) (p.behind d.new.g)
+    d.new.t (p.contents d.new.g) (p.store d.new.g) (p.behind d.new.g) c.args.event.now
     (assumption (c.requires, c.sound.ensures, c.sound-2.ensures, c.sound-3.ensures))
     (rw q at d.ensures.broke).idle (rw q at d.ensures.broke).halted)
 
