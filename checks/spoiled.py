@@ -240,7 +240,7 @@ SPOILS = [
     Spoil("documents", "an answer in README.md",
           edited("README.md", "ok 6F6E65", "ok 6F6E66"), "README.*answers"),
     Spoil("documents", "an answer below its line",
-          edited(f"{GUIDE}/2-calls-and-protections.md", "0x00001000 0x00000104", "0x00001000 0x00000004"),
+          edited(f"{GUIDE}/2-calls-and-protections.md", "0x00003000 0x00001000", "0x00002000 0x00001000"),
           "2-calls.*answers"),
     Spoil("documents", "a script with a name that is none",
           edited(f"{GUIDE}/3-sections-and-sharing.md", "FILE_MAP_COPY, 0", "FILE_MAP_COPIES, 0"),
