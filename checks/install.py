@@ -195,6 +195,10 @@ def try_run(place: Place) -> None:
     status, said, told = place.run(["melzudek", "talk"], TALK + b"help alloc\n")
     check.same("melzudek talk", (status, told), (0, ""))
     check.holds("a talk's answer", "[MEM_RESERVE, PAGE_READWRITE]" in said, said)
+    if run([DEBIAN, "-c", "import dask, distributed, pandas, tqdm"]).status == 0:
+        words = ["sweep", str(TOP / "examples/first.mm"), "--vary", "frames=6,8", "--workers", "1"]
+        status, rows, told = place.run(["melzudek", *words, "--refusals"])
+        check.holds("melzudek sweep", status == 0 and len(rows.splitlines()) == 3, told[-300:])
     check.holds(
         "the rules beside the package", "alloc (VirtualAlloc). Type is" in said, said[-200:]
     )

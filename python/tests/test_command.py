@@ -73,6 +73,17 @@ def test_sweep(capsys: pytest.CaptureFixture[str], tmp_path: Path) -> None:
     assert status == 1 and told.endswith("go on with it (resume), or name another file\n")
 
 
+def test_sweep_by_the_tool_of_the_checkout(tmp_path: Path) -> None:
+    """Workers are processes, which read the file of the command again."""
+    script = tmp_path / "small.mm"
+    script.write_text("".join(line + "\n" for line in small()), "ascii")
+    tool = str(EXAMPLES.parent / "tools" / "melzudek")
+    words = [sys.executable, tool, "sweep", str(script), "--vary", "frames=8,16", "--workers", "1"]
+    ran = subprocess.run(words, capture_output=True, text=True, timeout=120)
+    assert ran.returncode == 0 and "freeze_support" not in ran.stderr
+    assert [line.split()[0] for line in ran.stdout.splitlines()] == ["frames", "8", "16"]
+
+
 def test_compare_and_page(capsys: pytest.CaptureFixture[str], tmp_path: Path) -> None:
     files = [tmp_path / name for name in ("both.svg", "faults.csv", "page.html")]
     one, more = tmp_path / "one.mm", tmp_path / "more.mm"

@@ -270,13 +270,29 @@ function attach() {
     document.body.style.setProperty('--script', clamp((100 * (x - left)) / width, 20, 90) + '%');
   });
 }
+// A bar between two parts, by the pointer or by the arrow keys.
+const STEP = 24; // pixels of an arrow key
 function drag(bar, moved) {
+  const tell = () => {
+    const { left } = bar.getBoundingClientRect();
+    bar.setAttribute('aria-valuenow', Math.round((100 * left) / innerWidth));
+  };
+  function move(x) {
+    moved(x);
+    editor.resize();
+    tell();
+  }
   bar.onpointerdown = (event) => bar.setPointerCapture(event.pointerId);
   bar.onpointermove = (event) => {
-    if (!bar.hasPointerCapture(event.pointerId)) return;
-    moved(event.clientX);
-    editor.resize();
+    if (bar.hasPointerCapture(event.pointerId)) move(event.clientX);
   };
+  bar.onkeydown = (event) => {
+    const step = { ArrowLeft: -STEP, ArrowRight: STEP }[event.key];
+    if (!step) return;
+    event.preventDefault();
+    move(bar.getBoundingClientRect().left + step);
+  };
+  tell();
 }
 const WAYS = {
   proved: 'The proved programs, compiled for the browser',
