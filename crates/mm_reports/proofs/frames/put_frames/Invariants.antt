@@ -1,4 +1,4 @@
-use Rattle.std.proofs.Common.{◌≡◌, ◌+◌, ◌-◌, ◌++◌, ◌×◌}
+use Rattle.std.proofs.Common.{◌≡◌, ◌+◌, ◌-◌, ◌++◌}
 use Rattle.mm_replay.specs.Standing.{life}
 use Rattle.mm_reports.specs.{frame_lines, runs_from}
 use Rattle.mm_reports.proofs.frames.put_frames.Given as goal
