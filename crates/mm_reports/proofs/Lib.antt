@@ -2,8 +2,8 @@ pub mod Walks
 pub mod Cells
 pub mod Tellings
 pub mod Marks
-pub mod Runs
-pub mod Behind
+pub mod RunRows
+pub mod Splitting
 pub mod CsvRows
 pub mod Standing
 pub mod Adding
@@ -15,7 +15,7 @@ pub mod Summing
 pub mod Told
 pub use Walks.{next_begun, next_there, one_more, read_all, read_out}
 pub use Tellings.{counts_taken, rows_ended, said_taken}
-pub use Runs.{one_left, run_ended, run_longer, runs_begun, runs_over}
+pub use RunRows.{one_left, run_ended, run_longer, runs_begun, runs_over}
 pub use CsvRows.{counts_joined, faults_joined}
 pub use Standing.{state_taken}
 pub use Adding.{add_up}

@@ -263,7 +263,8 @@ impl Teller for UseTeller {
     ghost why = { why_text };
 
     fn take(&mut self, life: &Life, m: &Move, text: &mut Vec<u8>) -> Result<(), NoMemory> {
-        put_said_by(self.alloc, self.line, life, m, text)
+        put_said_by(self.alloc, self.line, life, m, text)?;
+        Ok(())
     }
 
     fn finish(&mut self, whole: bool, life: &Life, text: &mut Vec<u8>) -> Result<(), NoMemory> {

@@ -89,12 +89,12 @@ pub(crate) fn put_frames(
     ensures { OnOk result (text.new.items ≡ text.old.items
         ++ frame_lines (life_of life.now).frames (life_of life.now).machine.frames) }
 {
-    let frames = life.frames();
-    if frames == 0 {
+    let count = life.frames();
+    if count == 0 {
         return Ok(());
     }
     let mut run = FrameRun::new(alloc, life, is_marked(zeroed, 0))?;
-    for f in 1..frames {
+    for f in 1..count {
         run.take(life, Frame(f), is_marked(zeroed, f), text)?;
     }
     run.end(text)

@@ -14,7 +14,7 @@ pub fn before(byte: u8, word: &[u8]) -> &[u8]
 }
 
 /// The bytes behind the first such byte; none where there is none.
-#[tactic(auto, using(crate::proofs::Behind::rest_behind))]
+#[tactic(auto, using(crate::proofs::Splitting::rest_behind))]
 pub fn behind(byte: u8, word: &[u8]) -> &[u8]
     ensures { result.now ≡ behind byte word.now }
 {

@@ -15,5 +15,6 @@ returns c =
     counts_joined c.args.text.now.items c.put_first_number.new.text.items c.put_next_numbers.new.text.items c.put_sets_field.new.text.items c.put_charge.new.text.items
     l.line (numbers_of (counts_of l)) (sets_text l.sets) (charge_fields c.args.charge)
     (c.in_ok-put_first_number.ensures ∙ ap (λ (k : ℕ). c.args.text.now.items ++ csv_field (decimal k)) (c.from.ensures ∙ c.line.ensures))
-    (c.in_ok-put_next_numbers.ensures)
+    (c.in_ok-put_next_numbers.ensures
+    ∙ ap (λ (ns : List ℕ). c.put_first_number.new.text.items ++ flat_map number_next ns) (c.counts_in-counts.ensures ∙ ap numbers_of c.counts.ensures.value))
     c.in_ok-put_sets_field.ensures c.in_ok-put_charge.ensures

@@ -6,7 +6,7 @@ use Rattle.mm_move_rules.specs.{FrameTable}
 use Rattle.mm_reports.specs.{frame_lines, frame_words, run_line, runs_from}
 
 module _ (d : FrameTable) (first last : ℕ) (words : Text) where
-  after_test : Bool → ℕ → Text
+  abbrev after_test : Bool → ℕ → Text
   after_test b count =
       if b then runs_from d first (last + 1) words count
       else run_line first last words ++ runs_from d (last + 1) (last + 1) (frame_words d (last + 1)) count
