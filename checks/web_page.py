@@ -21,6 +21,10 @@ BROWSERS = 3  # that are led side by side
 LEAST, MOST = 0x10000, 0x7FFF0000  # the user addresses
 RUNS = "Number(document.documentElement.dataset.runs ?? 0)"
 SHOWN = "!!document.querySelector('iframe.shown')"
+NEW_ALONE = (
+    "(([one, ...more]) => one.matches('.shown:not([data-old])') && !more.length)"
+    "(document.querySelectorAll('iframe'))"
+)
 
 
 class Checks:
@@ -205,10 +209,13 @@ class Checks:
 
     def linked(self, page: Browser) -> None:
         """A line that is chosen left is shown right, and the other way round."""
-        self.after(page, "(view('frames'), putExample('lab'))")
+        page.run("(globalThis.heard = 0, addEventListener('message', () => globalThis.heard++))")
         page.wait(SHOWN, 60)
+        page.run("document.querySelector('iframe').dataset.old = 'yes'")
+        self.after(page, "(view('frames'), putExample('lab'))")
+        page.wait(NEW_ALONE, 60)
+        rested(page)
         page.run("editor.choose(32)")
-        page.run("addEventListener('message', ({ data }) => (globalThis.heard = data))")
         page.wait("run.lineOf[editor.line()] === 20")
         self.holds(
             "its moves in words",
@@ -408,6 +415,14 @@ def hinted(page: Browser) -> None:
             return
         page.key(" ", modifiers=2)
     page.wait(shown, 10)
+
+
+def rested(page: Browser) -> None:
+    """Waits until the charts tell no more: a new page chooses a line by itself, and tells it."""
+    heard = -1
+    while heard != page.run("globalThis.heard"):
+        heard = page.run("globalThis.heard")
+        time.sleep(1.5)
 
 
 def awaited(page: Browser, text: str, part: str) -> str:

@@ -1,8 +1,6 @@
 // The page that mmshow writes of the run, in a frame with an origin of its own. A line that is
 // chosen here is told to it, and one that is chosen there is told here, by messages.
 const LAID_OUT = 20; // milliseconds, so that the page has its width when it first draws
-// A page in a frame has no address of its own to keep its place in.
-const FRAMED = '<head><script>history.replaceState = () => undefined;<\/script>';
 
 function makeFrame(place, chosen) {
   let shown = '';
@@ -31,7 +29,7 @@ function makeFrame(place, chosen) {
       tell();
     };
     place.append(frame);
-    setTimeout(() => (frame.srcdoc = html.replace('<head>', () => FRAMED)), LAID_OUT);
+    setTimeout(() => (frame.srcdoc = html), LAID_OUT);
   }
   return {
     // A page is drawn once its place is seen and the typing rests.
