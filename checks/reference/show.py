@@ -637,7 +637,7 @@ def form_of(argv):
     return None
 
 
-USAGE = ('usage: mmshow html [SCRIPT [ANSWERS]] | tell [SCRIPT [ANSWERS]] | events [SCRIPT [ANSWERS]] | counts [LINE] | state LINE'
+USAGE = ('usage: mmshow html [SCRIPT [ANSWERS [OBSERVATIONS]]] | tell [SCRIPT [ANSWERS]] | events [SCRIPT [ANSWERS]] | counts [LINE] | state LINE'
          ' | frame N | key KEY | faults | sums\n')
 
 

@@ -219,11 +219,19 @@ pub const UP_TO_ANSWERS: &str = "\
 </script>\n\
 <script type=\"text/plain\" id=\"data-answers\">";
 
+/// The page up to the name of the script's file.
+pub const UP_TO_NAME: &str = "\
+</script>\n\
+<script type=\"text/plain\" id=\"data-name\">";
+
+/// The page up to the packed observations.
+pub const UP_TO_OBSERVATIONS: &str = "\
+</script>\n\
+<script type=\"text/plain\" id=\"data-observations\">";
+
 /// The page up to the page's last byte.
 pub const UP_TO_END: &str = "\
 </script>\n\
-<script type=\"text/plain\" id=\"data-name\"></script>\n\
-<script type=\"text/plain\" id=\"data-observations\"></script>\n\
 <script>\n\
 'use strict';\n\
 const element = (id) => document.getElementById(id);\n\

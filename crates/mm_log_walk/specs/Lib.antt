@@ -12,7 +12,7 @@ pub use Shown.{shown_file, shown_line, shown_lines}
 pub use Fitting.{AreFit, IsMisfit, first_word, fits, fits_line, fits_word, is_access_word}
 pub use Fitting.{is_call_word, is_ending_word, is_memory_word, is_refusable_word, is_section_word}
 pub use Fitting.{is_system_word, is_thread_word}
-pub use Files.{HasLines, IsRead, ReadsOn, total_of}
+pub use Files.{HasBytes, HasLines, IsRead, ReadsOn, total_of}
 pub use Telling.{Closes, ClosesAt, Poured, RestOf, Tells, is_broken}
 pub use Classing.{class_list, class_then, classed, classes_rest, move_of, pending}
 pub use Answering.{Answers, HasTold, Said, Why, close_words, closing_status, closing_text}

@@ -1,6 +1,7 @@
 pub mod Worded
 pub mod Behind
 pub mod Paged
+pub mod Following
 pub mod Summed
 pub mod Exactness
 pub use Paged.{page_taken}
