@@ -3,8 +3,9 @@
 
 Each form but `html` (the pages are compared by checks/page), on the log of each example, of 200
 generated scripts, and of 30 scripts that are drawn here, with failing devices, threads that wait
-and `age` lines, so that `tell` has names and reasons to add. Where there is a script, `tell` and
-`events` are compared without it, with it, and with its answers. Each log is then spoiled in one line, and all
+and `age` and `charge` lines, so that there are names, reasons and charges to tell. Where there is
+a script, `tell`, `events` and `counts csv` are compared without it, with it, and with its answers.
+Each log is then spoiled in one line, and all
 forms are compared again, with the status and the reason why a move is not legal.
 
 tests/rows/show/ has logs by hand with the reason of their last move, and a script by hand with the
@@ -66,6 +67,7 @@ OTHERS = [
     "zeroer {few}",
     "fail {device} {way} {many} {few}",
     "query {pid} {page}",
+    "charge",
     "protect {pid} {page} 0x1000 {protection}",
     "grow {few}",
     "alloc 1 {page} 0x3000 0x1000 0x4",
@@ -133,15 +135,14 @@ def forms_of(log: bytes, files: list[str], draw: random.Random) -> list[list[str
     line, other = (str(draw.randint(1, lines)) for _ in range(2))
     frame = str(draw.randrange(16))
     forms = [["tell"], ["events"], ["counts"], ["counts", line], ["state", other], ["frame", frame]]
-    forms += [["key", key], ["faults"], ["sums"]]
+    forms += [["key", key], ["faults"], ["sums"], ["counts", "csv"], ["faults", "csv"]]
     if key.startswith("p"):
         pid, page = key[1:].split(".")
         address = int(page) * 4096 % 2**32 + draw.randrange(4096)
         forms.append(["key", f"{pid}:0x{address:X}"])
-    with_files = [
-        (form, count) for form in ("tell", "events") for count in range(1, len(files) + 1)
-    ]
-    return forms + [[form, *files[:count]] for form, count in with_files]
+    for count in range(1, len(files) + 1):
+        forms += [[*form, *files[:count]] for form in (["tell"], ["events"], ["counts", "csv"])]
+    return forms
 
 
 def differing(got: Ended, wanted: tuple[int, bytes]) -> Optional[str]:

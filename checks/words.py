@@ -19,6 +19,20 @@ from common import Check, Word, begin, table
 SCRIPT = b"machine 6 0 1 0\n"
 CHECKED = b"yes\nmoves 0\nzero 0\nsoft 0\nhard 0\nsteals 0\nwrites 0\n"
 LOG = b"at 1 machine 6 0 1 0\n"
+COUNTED = (
+    b"line,zeroed,free,standby,modified,active,transition,slots,requests,sets,charge,limit\n"
+    b"1,0,6,0,0,0,0,0,0,,,\n"
+)
+FAULTS = b"process,page,hard,standby,modified,writing,active,demand-zero,copy,collided\n"
+
+# Forms that ask for what the log does not have: status 6, and what is missing.
+MISSING: list[tuple[list[Word], bytes]] = [
+    (["counts", "2"], b"no such line 2\n"),
+    (["state", "0x2"], b"no such line 2\n"),
+    (["state", "1000000"], b"no such line 1000000\n"),
+    (["frame", "6"], b"no such frame 6\n"),
+    (["frame", "4294967295"], b"no such frame 4294967295\n"),
+]
 
 # Words that are no form of any program. A word that begins with `-` is none; nor are `help` and a
 # beginning of a name. (`mmnames` without words is a form.)
@@ -57,9 +71,9 @@ FORMS: dict[str, list[tuple[list[Word], bytes, Optional[bytes]]]] = {
     ],
     "mmshow": [
         (["sums"], LOG, b"at machine 1\n"),
-        (["counts", "2"], LOG, b"no such line\n"),
-        (["state", "0x2"], LOG, b"no such line\n"),
-        (["frame", "4294967295"], LOG, b"no such frame\n"),
+        (["counts", "csv"], LOG, COUNTED),
+        (["counts", "csv"], b"", COUNTED.splitlines(True)[0]),
+        (["faults", "csv"], LOG, FAULTS),
         (["key", "p255.4294967295"], LOG, b"page p255.4294967295\nat the end: dead\n"),
         (["key", "1:0x10FFF"], LOG, b"page p1.16\nat the end: dead\n"),
         (["tell"], LOG, b"1  machine 6 0 1 0\n"),
@@ -96,11 +110,13 @@ OTHER: dict[str, list[list[Word]]] = {
         [], ["html", "a", "b", "c", "d"], ["html", "-h"], ["--", "sums"], ["sums", "x"],
         ["sums", ""],
         ["sum"], ["none"], ["tell", "a", "b", "c"], ["tell", "-h"], ["counts", "x"],
-        ["counts", "1", "2"], ["counts", "0"], ["counts", "1000001"], ["state"], ["state", ""],
+        ["counts", "1", "2"], ["counts", "0"], ["counts", "1000001"], ["counts", "csv", "a", "b", "c"],
+        ["counts", "1", "csv"], ["counts", "CSV"], ["counts", ""], ["state"], ["state", ""],
         ["state", "0"], ["state", "1", "2"], ["frame"], ["frame", "p1.16"],
         ["frame", "4294967296"], ["key"], ["key", "1.16"], ["key", "p256.1"], ["key", "p1"],
         ["key", "1:"], ["key", "1:x"], ["key", "256:0x1000"], ["key", "1:0x100000000"],
-        ["key", "p1.16", "p1.17"], ["faults", "x"], ["--plain", "tell"], ["run"], ["check"],
+        ["key", "p1.16", "p1.17"], ["faults", "x"], ["faults", "csv", "x"],
+        ["faults", "1"], ["state", "csv"], ["sums", "csv"], ["--plain", "tell"], ["run"], ["check"],
     ],
     "mmnames": [
         ["line"], ["lin"], ["Lines"], ["lines "], ["lines", "talk"], ["lines", "lines"],
@@ -132,10 +148,18 @@ def compare_form(
     check.same(what, (status, names, place), (0, [b"lines", b"ok", b"none", b"charge"], 0))
 
 
+def compare_missing(check: Check) -> None:
+    """What a log does not have."""
+    for words, wanted in MISSING:
+        status, said, _, _ = run_words(check.programs["mmshow"], words, LOG)
+        check.same(f"mmshow {words!r}", (status, said), (6, wanted))
+
+
 def main() -> int:
     check = begin(__doc__, tuple(FORMS))
     usages = {name: line for name, line in table("tests/rows/usage.txt")}
     check.same("tests/rows/usage.txt", sorted(usages), sorted(FORMS))
+    compare_missing(check)
     for name, forms in FORMS.items():
         for words, given, wanted in forms:
             compare_form(check, name, words, given, wanted)

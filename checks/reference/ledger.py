@@ -233,7 +233,7 @@ def state(log: str, line: int) -> list[str]:
     for ledger, is_end, _ in lines_of(log):
         if is_end and ledger.line == line:
             return state_rows(ledger)
-    return ["no such line"]
+    return [f"no such line {line}"]
 
 
 def state_rows(ledger: Ledger) -> list[str]:
@@ -241,11 +241,18 @@ def state_rows(ledger: Ledger) -> list[str]:
     rows = [f"after line {ledger.line}"]
     rows += [" ".join([name, *map(str, ledger.lists[name])]) for name in LISTS]
     rows.append(" ".join(["requests", *map(str, ledger.requests)]))
+    runs: list[tuple[int, int, str]] = []  # of frames that follow one another: first, last, facts
     for number, frame in enumerate(ledger.frames):
         facts = [place_of(ledger, number), frame.owner or "no page"]
         facts += ["changed" if frame.changed else "not changed", frame.backing or "no copy"]
         facts += [f"{frame.shares} places", IO[frame.request]]
-        rows.append(f"frame {number} {', '.join(facts)}")
+        said = ", ".join(facts)
+        if runs and runs[-1][2] == said:
+            runs[-1] = (runs[-1][0], number, said)
+        else:
+            runs.append((number, number, said))
+    for first, last, said in runs:
+        rows.append(f"frame {first} {said}" if first == last else f"frames {first} to {last} {said}")
     for pid, (least, most) in sorted(ledger.sets.items()):
         places = [place.split(".") for place in ledger.valid]
         pages = sorted(int(page) for owner, page in places if int(owner) == pid)

@@ -8,6 +8,8 @@ import io
 from life import spell_key
 
 HEAD = 'line,kind,class,process,page,address,key,frame,from,to,reason'.split(',')
+COUNTS = 'line,zeroed,free,standby,modified,active,transition,slots,requests,sets,charge,limit'.split(',')
+FAULTS = 'process,page,hard,standby,modified,writing,active,demand-zero,copy,collided'.split(',')
 
 # code: what happened, and why or by what; what stands in braces comes from the move
 EVENTS = {
@@ -36,6 +38,12 @@ def csv_line(fields):
     text = io.StringIO()
     csv.writer(text, lineterminator='\n').writerow(fields)
     return text.getvalue()[:-1]
+
+
+def counts(l, charge):
+    """The row of a line that ends: the eight counts, the working sets in the order of processes, the charge and its limit."""
+    sets = ' '.join(str(l.valid_places(pid)) for pid in sorted(l.procs))
+    return csv_line([l.line, *l.counts(), sets, *charge])
 
 
 def event(l, code, facts, why):

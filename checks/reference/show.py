@@ -5,15 +5,18 @@
                                                     answers add to the words, as the page's own text has it
     show.py events [SCRIPT [ANSWERS]] < LOG         a row of csv for each move
     show.py counts [LINE] < LOG                     lists after each line; use counts after one line
+    show.py counts csv [SCRIPT [ANSWERS]] < LOG     lists, working sets and the charge after each line, as csv
     show.py state LINE < LOG                        every list, frame and working set after one line
     show.py frame N < LOG, show.py key KEY < LOG    the history of a frame, of a page, `p1.16`, `s0.2` or `1:0x10000`
     show.py faults < LOG                            per process and page; device traffic
+    show.py faults csv < LOG                        per process and page, as csv
     show.py sums < LOG                              how many moves are of each class
     show.py html PAGE [SCRIPT [ANSWERS [OBSERVATIONS]]] < LOG
                                                     the page; PAGE is what `web/pack --whole` prints
 
 It stands on life.py, an independent replay of a log.
 """
+import itertools
 import sys
 from collections import Counter, OrderedDict
 
@@ -162,6 +165,10 @@ class BadLog(Exception):
 
 class BadScript(Exception):
     pass
+
+
+class Missing(Exception):
+    """What a log that replays does not have."""
 
 
 def fits(script, m):
@@ -393,12 +400,22 @@ def frame_row(l, f):
         '%s %d' % r.backing if r.backing else 'no copy', r.shares, REQUESTS[r.request])
 
 
+def frame_rows(said):
+    """A row for each run of frames of which the same is said."""
+    t, first = [], 0
+    for row, same in itertools.groupby(said):
+        last = first + len(list(same)) - 1
+        t.append(('frame %d' % first if first == last else 'frames %d to %d' % (first, last)) + ' ' + row)
+        first = last + 1
+    return t
+
+
 def state_rows(l):
     """Every list, every frame, every working set, the slots."""
     t = ['after line %d' % l.line]
     t += [' '.join([name] + [str(f) for f in l.lists[name]]) for name in ('zeroed', 'free', 'standby', 'modified')]
     t.append(' '.join(['requests'] + [str(f) for f in l.requests]))
-    t += ['frame %d %s' % (f, frame_row(l, f)) for f in range(l.frames)]
+    t += frame_rows([frame_row(l, f) for f in range(l.frames)])
     for pid in sorted(l.procs):
         pages = sorted(v for p, v in l.valid if p == pid)
         t.append(' '.join(['process %d min %d max %d pages' % ((pid,) + l.procs[pid])] + [str(v) for v in pages]))
@@ -416,9 +433,36 @@ def do_counts(out, data):
 
 def do_line(out, data, line, rows):
     """The rows of the state after one line."""
-    walk(data, nothing, lambda l: out.extend(rows(l)) if l.line == line else None)
-    if not out:
-        out.append('no such line')
+    end = walk(data, nothing, lambda l: out.extend(rows(l)) if l.line == line else None)
+    if (end.line or 0) < line:
+        raise Missing('line %d' % line)
+
+
+def do_counts_csv(out, data, names):
+    """The counts, the working sets and the charge that was told last, after each line."""
+    script, answers = texts(names)
+    told, held = ['', ''], []
+
+    def charge(n):
+        asked = script is not None and answers is not None and n <= min(len(script), len(answers)) and script[n - 1] == 'charge'
+        words = answers[n - 1].split(' ') if asked else []
+        numbers = [remarks.number(word) for word in words[1:]]
+        if words[:1] == ['ok'] and len(numbers) == 2 and None not in numbers:
+            told[:] = numbers
+
+    def ended(l):
+        charge(l.line)
+        held.append(rows.counts(l, told))
+
+    def seen(l, m, code, d):
+        if m[0] == 'at':
+            fits(script, m)
+        out.extend(held)
+        held.clear()
+
+    out.append(','.join(rows.COUNTS))
+    walk(data, seen, ended)
+    out.extend(held)
 
 
 def history(out, data, wanted, begun=lambda l: None):
@@ -436,9 +480,8 @@ def history(out, data, wanted, begun=lambda l: None):
 def do_frame(out, data, n):
     end = history(out, data, lambda d: d.get('f') == n, lambda l: out.append('frame %d' % n) if n < l.frames else None)
     if n >= (end.frames or 0):
-        out.append('no such frame')
-    else:
-        out.append('at the end: ' + frame_row(end, n))
+        raise Missing('frame %d' % n)
+    out.append('at the end: ' + frame_row(end, n))
 
 
 def do_key(out, data, key):
@@ -453,7 +496,7 @@ FAULTS = OrderedDict([('hard', 'hard'), ('1', 'standby'), ('2', 'modified'), ('3
                       ('copy', 'copy'), ('collided', 'collided')])
 
 
-def do_faults(data):
+def do_faults(data, is_csv=False):
     pages, procs, io, moves = {}, {}, Counter(), Counter()
 
     def seen(l, m, code, d):
@@ -468,13 +511,18 @@ def do_faults(data):
             io['paging file' if d['home'].startswith('slot') else 'files', m[0]] += 1
     walk(data, seen)
 
+    keys = {pid: [k for p, k in sorted(pages) if p == pid] for pid in sorted(procs)}
+    if is_csv:
+        told = [(pid, *one) for pid in keys for one in [('all', procs[pid])] + [(spell_key(k), pages[pid, k]) for k in keys[pid]]]
+        return [','.join(rows.FAULTS)] + [rows.csv_line([pid, page] + [c[x] for x in FAULTS]) for pid, page, c in told]
+
     def row(a, b, c):
         h, s = c['hard'], sum(c[x] for x in SOFT)
         return '%-9s %-14s' % (a, b) + ''.join('%10d' % c[x] for x in FAULTS) + ('  %14d %%' % (100 * h // (h + s)) if h + s else '')
     out = ['%-9s %-14s' % ('process', 'page') + ''.join('%10s' % head for head in FAULTS.values()) + '  hard of hard+soft']
-    for pid in sorted(procs):
+    for pid in keys:
         out.append(row(pid, 'all', procs[pid]))
-        out += [row(pid, spell_key(k), c) for (p, k), c in sorted(pages.items()) if p == pid]
+        out += [row(pid, spell_key(k), pages[pid, k]) for k in keys[pid]]
     for dev in ('paging file', 'files'):
         out.append('%s: %d read, %d reads failed, %d written, %d writes failed' % (
             (dev,) + tuple(io[dev, w] for w in ('got', 'bad', 'wrote', 'lost'))))
@@ -624,6 +672,8 @@ def form_of(argv):
         return lambda out, data: do_events(out, data, words)
     if name == 'counts' and not words:
         return do_counts
+    if name == 'counts' and words[0] == 'csv' and len(words) <= 3:
+        return lambda out, data: do_counts_csv(out, data, words[1:])
     if name in ('counts', 'state') and line is not None:
         return lambda out, data: do_line(out, data, line, use_rows if name == 'counts' else state_rows)
     if name == 'frame' and value is not None:
@@ -632,13 +682,15 @@ def form_of(argv):
         return lambda out, data: do_key(out, data, read_page(word))
     if name == 'html' and 1 <= len(words) <= 4:
         return lambda out, data: out.append(do_html(data, words[0], words[1:]))
-    if name in ('faults', 'sums') and not words:
-        return lambda out, data: out.extend(do_faults(data) if name == 'faults' else do_sums(data))
+    if name == 'faults' and words in ([], ['csv']):
+        return lambda out, data: out.extend(do_faults(data, bool(words)))
+    if name == 'sums' and not words:
+        return lambda out, data: out.extend(do_sums(data))
     return None
 
 
-USAGE = ('usage: mmshow html [SCRIPT [ANSWERS [OBSERVATIONS]]] | tell [SCRIPT [ANSWERS]] | events [SCRIPT [ANSWERS]] | counts [LINE] | state LINE'
-         ' | frame N | key KEY | faults | sums\n')
+USAGE = ('usage: mmshow html [SCRIPT [ANSWERS [OBSERVATIONS]]] | tell [SCRIPT [ANSWERS]] | events [SCRIPT [ANSWERS]] | counts [LINE]'
+         ' | counts csv [SCRIPT [ANSWERS]] | state LINE | frame N | key KEY | faults [csv] | sums\n')
 
 
 def answer(argv, data):
@@ -653,6 +705,8 @@ def answer(argv, data):
         last, status = 'no line %d%s\n' % (bad.line, why), 3
     except BadScript as bad:
         last, status = 'script line %d\n' % bad.args[0], 6
+    except Missing as what:
+        last, status = 'no such %s\n' % what, 6
     except observations.BadObservation as bad:
         last, status = 'observation line %d\n' % bad.args[0], 6
     return status, ''.join(line + '\n' for line in out) + last

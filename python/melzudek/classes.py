@@ -29,12 +29,10 @@ BEGINNINGS = {
     },
     **{"soft": "soft", "hard": "hard", "collided": "collided"},
 }
-# what columns of `mmshow faults` are called, by the group that they belong to
+# what columns of `mmshow faults csv` are called, by the group that they belong to
 COLUMNS = {
-    **{"demand-zero": "zero", "demand-0": "zero", "zero": "zero"},
-    **{"copy-on-write": "copy", "copy": "copy", "hard": "hard", "collided": "collided"},
-    **{"soft": "soft", "standby": "soft", "modified": "soft", "writing": "soft", "active": "soft"},
-    "transition": "soft",
+    **{"demand-zero": "zero", "copy": "copy", "hard": "hard", "collided": "collided"},
+    **{"standby": "soft", "modified": "soft", "writing": "soft", "active": "soft"},
 }
 
 
@@ -48,15 +46,15 @@ def grouped(sums: Iterable[str]) -> dict[str, int]:
 
 
 def by_process(rows: Iterable[Mapping[str, str]]) -> dict[int, dict[str, int]]:
-    """The faults of each process from the rows of `mmshow faults`; rows of sums are left out."""
+    """The faults of each process from the rows of `mmshow faults csv`, without its sums."""
     found: dict[int, dict[str, int]] = {}
     for row in rows:
-        if "all" in row.values() or not row["process"].isdecimal():
+        if row["page"] == "all":
             continue
         counts = found.setdefault(int(row["process"]), dict.fromkeys(FAULTS, 0))
         for name, value in row.items():
-            group = COLUMNS.get(name.partition(" fault")[0])
-            if group and value:
+            group = COLUMNS.get(name)
+            if group:
                 counts[group] += int(value)
     return found
 

@@ -12,7 +12,6 @@ from __future__ import annotations
 
 import io
 import os
-import re
 from collections.abc import Iterable, Iterator, Mapping, Sequence
 from pathlib import Path
 from typing import TYPE_CHECKING, Any
@@ -246,7 +245,7 @@ def scale(axes: Any, places: list[Any]) -> None:
 def lists(run: Run, title: str = "") -> Picture:
     """Page frames by list over the lines of a run, and below them each working set."""
     counts = run.counts
-    sets = [name for name in counts.columns if re.search("[0-9]", name)]  # of each process one
+    sets = [name for name in counts.columns if name.startswith("process ")]
     with matplotlib.rc_context(STYLE):
         made, axes = figure(2 if sets else 1, 5.6 if sets else HEIGHT, [3, 2] if sets else None)
         known = [name for name in LISTS if name in counts.columns]
@@ -259,7 +258,8 @@ def lists(run: Run, title: str = "") -> Picture:
         beside(axes[0])
         for at, name in enumerate(sets):
             colour = {"color": styled(at)["color"], "linestyle": styled(at)["linestyle"]}
-            axes[1].plot(counts["line"], counts[name], drawstyle="steps-post", label=name, **colour)
+            heights = counts[name].astype("float64")  # nothing before the process begins
+            axes[1].plot(counts["line"], heights, drawstyle="steps-post", label=name, **colour)
         if sets:
             axes[1].set_ylabel("pages")
             axes[1].set_ylim(bottom=0)
@@ -313,7 +313,7 @@ def charge_table(rows: Any) -> Any:
     table = table.dropna(subset=["charge", "limit"])
     if not len(table):
         raise Mistake("no line asks for the charge: `melzudek observe SCRIPT --picture` does")
-    return table
+    return table.astype({"charge": "int64", "limit": "int64"})
 
 
 def pages(run: Run, process: int = 1, title: str = "") -> Picture:

@@ -13,7 +13,6 @@ kept as it is.
 from __future__ import annotations
 
 import html
-import io
 import os
 import shutil
 import subprocess
@@ -25,7 +24,6 @@ from typing import IO, Any
 
 from . import programs
 from .classes import fault_of, grouped
-from .columns import as_csv
 from .errors import Ended, Mistake
 from .libraries import require
 from .names import ERROR, STATUS
@@ -105,13 +103,14 @@ class Run:
 
     @cached_property
     def faults_by_page(self) -> Any:
-        """`mmshow faults`: the faults of each process and page."""
-        return self.listed("faults")
+        """`mmshow faults csv`: the faults of each process, whose page is `all`, and of each page."""
+        return self.told("faults", "csv")
 
     @cached_property
     def counts(self) -> Any:
-        """`mmshow counts`: after each line the lists of page frames, slots and requests."""
-        return self.listed("counts")
+        """`mmshow counts csv`: after each line the lists of page frames, slots and requests, the
+        working set of each `process 1` and so on, and the charge that was told last."""
+        return with_sets(self.told("counts", "csv", *self.texts))
 
     @cached_property
     def totals(self) -> dict[str, int]:
@@ -174,12 +173,8 @@ class Run:
 
     def told(self, *words: str) -> Any:
         """The csv of a form of mmshow, as a table."""
-        return pandas.read_csv(self.say(*words), keep_default_na=False, na_values=[""])
-
-    def listed(self, form: str) -> Any:
-        """A table that mmshow prints in columns."""
-        rows = as_csv(form, self.say(form).read().decode("ascii").splitlines())
-        return pandas.read_csv(io.StringIO("\n".join(rows)))
+        empty: dict[str, Any] = {"keep_default_na": False, "na_values": [""]}
+        return pandas.read_csv(self.say(*words), dtype={"sets": str}, **empty)
 
     def say(self, *words: str) -> IO[bytes]:
         """What mmshow writes for these words; Mistake or TooOld where it cannot."""
@@ -266,6 +261,18 @@ def typed(table: Any) -> Any:
             table[name] = table[name].astype("category")
         else:
             table[name] = table[name].fillna("").astype("object")
+    return table
+
+
+def with_sets(table: Any) -> Any:
+    """The resident pages of each process as a column, nothing before the process begins."""
+    if "sets" not in table.columns:
+        return table
+    sets = table.pop("sets").fillna("").str.split(expand=True)
+    for at in sets.columns:
+        table[f"process {at + 1}"] = pandas.to_numeric(sets[at]).astype("Int64")
+    for name in ("charge", "limit"):
+        table[name] = table[name].astype("Int64")
     return table
 
 

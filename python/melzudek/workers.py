@@ -21,7 +21,6 @@ from typing import Any, Protocol, runtime_checkable
 
 from . import programs
 from .classes import FAULTS, GROUPS, by_process, grouped
-from .columns import as_csv
 from .scripts import ACCESSES, LIMITS, OF_MACHINE, RHYTHMS, Value, head, processes, varied
 
 NAMES = ("mmsim", "mmshow")
@@ -180,7 +179,7 @@ def measure(made: Made, tools: Tools, processes: int) -> Row:
     """The counts of a log, as mmshow tells them."""
     row: Row = {"references": made.references, **grouped(shown(made.log, tools, "sums"))}
     if processes:
-        found = by_process(csv.DictReader(as_csv("faults", shown(made.log, tools, "faults"))))
+        found = by_process(csv.DictReader(shown(made.log, tools, "faults", "csv")))
         for pid in range(1, processes + 1):
             counts = found.get(pid, {})
             row |= {f"{fault}:{pid}": counts.get(fault, 0) for fault in FAULTS}

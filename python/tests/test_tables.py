@@ -77,7 +77,24 @@ def test_columns() -> None:
     assert one.counts["line"].tolist() == list(range(1, 58))
     frames = ["zeroed", "free", "standby", "modified", "active", "transition"]
     assert (one.counts[frames].sum(axis=1) == 10).all()
+    sets = [name for name in one.counts.columns if name.startswith("process ")]
+    valid = one.counts[sets].sum(axis=1)
+    assert sets == ["process 1", "process 2"] and (valid >= one.counts["active"]).all()
+    assert one.counts["charge"].iloc[-1] == 8 and one.counts["limit"].iloc[-1] == 16
     assert one.answers["name"][54] == "STATUS_IN_PAGE_ERROR"
+
+
+def test_the_charge_is_that_of_the_last_charge_line() -> None:
+    with Machine(frames=8, slots=8) as machine:
+        process = machine.process(0, 4)
+        first = machine.charge()
+        process.alloc(size=8192)
+        second = machine.charge()
+        process.alloc(size=4096)
+        counts = run(machine.script).counts
+    told = [(one.charge, one.limit) for one in counts.itertuples() if one.charge is not pandas.NA]
+    assert told == [tuple(first)] * 2 + [tuple(second)] * 2
+    assert counts["charge"].isna().sum() == len(counts) - 4
 
 
 def test_words_and_page_are_those_of_mmshow() -> None:
@@ -139,8 +156,8 @@ def test_an_mmshow_that_is_too_old(tmp_path: Path, monkeypatch: pytest.MonkeyPat
     monkeypatch.setenv("MELZUDEK_MMSHOW", str(old))
     for name, form in (
         ("events", "events"),
-        ("counts", "counts"),
-        ("faults_by_page", "faults"),
+        ("counts", "counts csv"),
+        ("faults_by_page", "faults csv"),
     ):
         with pytest.raises(TooOld, match=f"this mmshow is too old, as it has no form `{form}"):
             getattr(run(SHORT), name)

@@ -9,8 +9,8 @@ use Rattle.mm_replay.proofs.{one_move}
 use Rattle.mm_log_check.specs.{IsStuck, StuckBefore, SpellsMove, SpellsBefore, IsFaultStatus, Lines}
 use Rattle.mm_log_check.proofs.{Ended, in_front, no_more, one_reading, taken_told, end_told}
 use Rattle.mm_log_check.specs.declared.endings.Ending.TheVariants as ending
-use Rattle.mm_log_walk.specs.{fits, AreFit, ClosesAt, Said, Why, ends_well, close_words, closing_text, closing_status, HasTold, Answers, Says, IsWhole}
-use Rattle.mm_log_walk.specs.{IsCut, IsMisfitAt, SaysExactly, Closing}
+use Rattle.mm_log_walk.specs.{fits, AreFit, ClosesAt, Said, Why, ends_well, close_words, closing_text, closing_status, HasTold, Answers, Says}
+use Rattle.mm_log_walk.specs.{IsWhole, IsCut, IsMisfitAt, SaysExactly, Closing, Sought}
 use Rattle.mm_log_walk.specs.declared.closings.Closing.TheVariants as closing
 
 -- a log that is read to where it ends has every legal beginning
@@ -71,17 +71,18 @@ same_spelled a b (Some m) (Some n) e s t = ap Some (one_move m n s.1.0 t.1.0 s.0
 
 -- memory was refused, or a read failed
 abbrev Broke : Closing → Type 0
-Broke c = (closing_status c ≡ 1) ⊎ (closing_status c ≡ 4)
+Broke c = (c ≡ closing.Ended ending.NoMemory) ⊎ (c ≡ closing.Ended ending.ReadFault)
 
 module _ (script : Option (List Text)) (left left' : Option Text) (ms : List Move) (l : FrameLife) (replays : Replays ms unstarted l) (fit : AreFit script ms) where
   -- a log that is whole
-  whole_at : (c : Closing) → ClosesAt c left left' script ms l → (moves : List Move) → IsWhole script left moves → ((c ≡ closing.Ended ending.Yes) × (ms ≡ moves)) ⊎ Broke c
+  whole_at : (c : Closing) → ClosesAt c left left' script ms l → (moves : List Move) (w : IsWhole script left moves) → ((c ≡ closing.Ended ending.Yes) × (ms ≡ moves) × (l ≡ w.life)) ⊎ Broke c
   whole_at (closing.Ended ending.Yes) stop moves w =
       let t = lines_told left left' stop.held ms stop.total w.text stop.lines w.told in
       let end : t.0 ≡ [] = end_told left' t.0 t.1.0 stop.ends.1 in
       let same : spelled_moves moves ++ [] ≡ spelled_moves ms ++ [] =
       append_nil (spelled_moves moves) ∙ sym w.spelled.text ∙ t.1.1 ∙ ap (λ xs. spelled_moves ms ++ (xs ++ t.0)) stop.ends.0 ∙ ap (λ xs. spelled_moves ms ++ xs) end in
-      inl (refl, sym (one_reading moves ms [] [] unstarted w.life l w.spelled.in_range stop.lines.in_range w.replays replays (inl refl) (inl refl) same).0)
+      let one = one_reading moves ms [] [] unstarted w.life l w.spelled.in_range stop.lines.in_range w.replays replays (inl refl) (inl refl) same in
+      inl (refl, sym one.0, replays_one ms unstarted l w.life replays (subst (λ (zs : List Move). Replays zs unstarted w.life) one.0 w.replays))
   whole_at (closing.Ended (ending.No n o)) stop moves w =
       let t = lines_told left left' stop.held ms stop.total w.text stop.lines w.told in
       let stuck : IsStuck l (stop.held ++ t.0) = subst (λ (o : Option Text). StuckBefore o l stop.held) t.1.0 stop.ends.1 in
@@ -169,31 +170,32 @@ module _ (script : Option (List Text)) (left left' : Option Text) (ms : List Mov
 
 -- ---- what is written
 
-fault_of : (c : Closing) (status : ℕ) → status ≡ closing_status c → Broke c → IsFaultStatus status
-fault_of c status e (inl one) = inl (e ∙ one)
-fault_of c status e (inr four) = inr (inl (e ∙ four))
+module _ (script : Option (List Text)) (sought : Sought) (said : Said) (why : Why) (left left' took took' : Option Text) (result : ℕ) where
+  fault_of : (l : FrameLife) (c : Closing) → result ≡ closing_status sought l c → Broke c → IsFaultStatus result
+  fault_of l c e (inl memory) = inl (e ∙ ap (λ (d : Closing). closing_status sought l d) memory)
+  fault_of l c e (inr read) = inr (inl (e ∙ ap (λ (d : Closing). closing_status sought l d) read))
 
-module _ (script : Option (List Text)) (said : Said) (why : Why) (left left' took took' : Option Text) (result : ℕ) where
-  says_at : (t : HasTold left left' took took' script said why result) → (c : Closing) (moves : List Move) (l : FrameLife) → ((t.closing ≡ c) × (t.moves ≡ moves)) ⊎ Broke t.closing
-      → close_words why t.life c ≡ close_words why l c → Says took took' result (closing_status c) (closing_text said why l moves c)
-  says_at t c moves l (inl same) words =
-      let x : closing_text said why t.life t.moves t.closing ≡ closing_text said why l moves c =
-      ap (λ (d : Closing). closing_text said why t.life t.moves d) same.0 ∙ ap (λ (ms : List Move). closing_text said why t.life ms c) same.1
+  says_at : (t : HasTold left left' took took' script sought said why result) → (c : Closing) (moves : List Move) (l : FrameLife) → ((t.closing ≡ c) × (t.moves ≡ moves)) ⊎ Broke t.closing
+      → close_words sought why t.life c ≡ close_words sought why l c → closing_status sought t.life c ≡ closing_status sought l c
+      → Says took took' result (closing_status sought l c) (closing_text sought said why l moves c)
+  says_at t c moves l (inl same) words status =
+      let x : closing_text sought said why t.life t.moves t.closing ≡ closing_text sought said why l moves c =
+      ap (λ (d : Closing). closing_text sought said why t.life t.moves d) same.0 ∙ ap (λ (ms : List Move). closing_text sought said why t.life ms c) same.1
       ∙ ap (λ xs. said (ends_well c) moves ++ xs) words in
-      inl (t.status_is ∙ ap closing_status same.0, subst (λ (z : Text). Appended took took' z) x t.written)
-  says_at t c moves l (inr broke) words = inr (fault_of t.closing result t.status_is broke)
+      inl (t.status_is ∙ ap (λ (d : Closing). closing_status sought t.life d) same.0 ∙ status, subst (λ (z : Text). Appended took took' z) x t.written)
+  says_at t c moves l (inr broke) words status = inr (fault_of t.life t.closing t.status_is broke)
 
-  -- in the state in which the line is bad
-  cut_says : (t : HasTold left left' took took' script said why result) → (c : Closing) (moves : List Move) (l : FrameLife) → ((t.closing ≡ c) × (t.moves ≡ moves) × (t.life ≡ l)) ⊎ Broke t.closing
-      → Says took took' result (closing_status c) (closing_text said why l moves c)
-  cut_says t c moves l (inl same) = says_at t c moves l (inl (same.0, same.1)) (ap (λ (k : FrameLife). close_words why k c) same.2)
-  cut_says t c moves l (inr broke) = inr (fault_of t.closing result t.status_is broke)
+  -- in the state in which the log ends, or in which its line is bad
+  says_in : (t : HasTold left left' took took' script sought said why result) → (c : Closing) (moves : List Move) (l : FrameLife) → ((t.closing ≡ c) × (t.moves ≡ moves) × (t.life ≡ l)) ⊎ Broke t.closing
+      → Says took took' result (closing_status sought l c) (closing_text sought said why l moves c)
+  says_in t c moves l (inl same) =
+      says_at t c moves l (inl (same.0, same.1)) (ap (λ (k : FrameLife). close_words sought why k c) same.2) (ap (λ (k : FrameLife). closing_status sought k c) same.2)
+  says_in t c moves l (inr broke) = inr (fault_of t.life t.closing t.status_is broke)
 
-  pub says_exactly : Answers left left' took took' script said why result → SaysExactly script said why left took took' result
+  pub says_exactly : Answers left left' took took' script sought said why result → SaysExactly script sought said why left took took' result
   says_exactly (inl t) = record {
-    whole = λ moves w. subst (λ (z : Text). Says took took' result 0 z) (append_nil (said true moves))
-        (says_at t (closing.Ended ending.Yes) moves unstarted (whole_at script left left' t.moves t.life t.replays t.fit t.closing t.at moves w) refl);
-    cut = λ moves w. cut_says t (closing.Ended (ending.No (length moves + 1) w.refused)) moves w.life (cut_at script left left' t.moves t.life t.replays t.fit t.closing t.at moves w);
-    misfit = λ moves n w. says_at t (closing.Misfit n) moves unstarted (misfit_at script left left' t.moves t.life t.replays t.fit t.closing t.at moves n w) refl;
+    whole = λ moves w. says_in t (closing.Ended ending.Yes) moves w.life (whole_at script left left' t.moves t.life t.replays t.fit t.closing t.at moves w);
+    cut = λ moves w. says_in t (closing.Ended (ending.No (length moves + 1) w.refused)) moves w.life (cut_at script left left' t.moves t.life t.replays t.fit t.closing t.at moves w);
+    misfit = λ moves n w. says_at t (closing.Misfit n) moves unstarted (misfit_at script left left' t.moves t.life t.replays t.fit t.closing t.at moves n w) refl refl;
   }
   says_exactly (inr bad) = record { whole = λ moves w. inr bad; cut = λ moves w. inr bad; misfit = λ moves n w. inr bad }

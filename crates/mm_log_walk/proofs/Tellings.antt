@@ -8,8 +8,8 @@ use Rattle.mm_move_rules.proofs.{replays_then}
 use Rattle.mm_log_check.specs.{most_bytes, IsReadyToRead, Lines, ReadsMoves, Stops, LogReader, Ending}
 use Rattle.mm_log_check.specs.Reading.{Reading}
 use Rattle.mm_log_check.specs.declared.endings.Ending.TheVariants as ending
-use Rattle.mm_log_walk.specs.{fits, AreFit, IsMisfit, RestOf, Poured, Tells, Closes, Why, ends_well, close_words, said_by, closing_text, closing_status}
-use Rattle.mm_log_walk.specs.{HasTold, Closing}
+use Rattle.mm_log_walk.specs.{fits, AreFit, IsMisfit, RestOf, Poured, Tells, Closes, Why, ends_well, close_words, said_by, closing_text}
+use Rattle.mm_log_walk.specs.{closing_status, HasTold, Closing, Sought}
 use Rattle.mm_log_walk.specs.declared.closings.Closing.TheVariants as closing
 
 pub fit_more : (script : Option (List Text)) (ms : List Move) (m : Move) → AreFit script ms → fits script m ≡ true → AreFit script (ms ++ m ∷ [])
@@ -78,13 +78,13 @@ closes_misfit left mid left' took took' script r r' rest rest' l kept m n s read
 }
 
 -- what was told, and where the log or the script is bad
-pub has_told : (left left' took now took' : Option Text) (script : Option (List Text)) (rest : RestOf) (why : Why) (c : Closing) (rest' : RestOf) (l : FrameLife) (kept closed : Text)
-    → Closes left left' took now script rest c rest' l kept → closed ≡ (kept ++ rest' (ends_well c) l []) ++ close_words why l c → Wrote now took' closed false
-    → HasTold left left' took took' script (said_by rest) why (closing_status c)
-has_told left left' took now took' script rest why c rest' l kept closed s end w =
+pub has_told : (left left' took now took' : Option Text) (script : Option (List Text)) (sought : Sought) (rest : RestOf) (why : Why) (c : Closing) (rest' : RestOf) (l : FrameLife) (kept closed : Text)
+    → Closes left left' took now script rest c rest' l kept → closed ≡ (kept ++ rest' (ends_well c) l []) ++ close_words sought why l c → Wrote now took' closed false
+    → HasTold left left' took took' script sought (said_by rest) why (closing_status sought l c)
+has_told left left' took now took' script sought rest why c rest' l kept closed s end w =
     let ended : Text = rest' (ends_well c) l [] in
-    let words : Text = close_words why l c in
-    let same : s.written ++ closed ≡ closing_text (said_by rest) why l s.moves c =
+    let words : Text = close_words sought why l c in
+    let same : s.written ++ closed ≡ closing_text sought (said_by rest) why l s.moves c =
     ap (λ xs. s.written ++ xs) end ∙ sym (append_assoc s.written (kept ++ ended) words)
     ∙ ap (λ xs. xs ++ words) (sym (append_assoc s.written kept ended) ∙ s.told (ends_well c) [] ∙ ap (λ (ms : List Move). rest (ends_well c) unstarted ms) (append_nil s.moves)) in
     let last : Appended now took' closed = subst (λ (x : Text). Appended now took' x) (w.all refl) w.written in

@@ -8,8 +8,10 @@ use Rattle.mm_move_rules.specs.{IsSpelled, AreMoves, spelled_moves, FrameLife, u
 use Rattle.mm_log_check.specs.{most_bytes, IsStuck, SpellsMove, IsFaultStatus}
 use Rattle.mm_log_check.specs.declared.endings.Ending.TheVariants as ending
 use Rattle.mm_log_walk.specs.Fitting.{fits, AreFit}
+use Rattle.mm_log_walk.specs.Seeking.{sought_status, sought_words}
 use Rattle.mm_log_walk.specs.Answering.{Said, Why, close_words}
 use Rattle.mm_log_walk.specs.declared.closings.Closing.TheVariants as closing
+use Rattle.mm_log_walk.specs.declared.seeking.Sought.{Sought}
 
 -- the status and the text; or memory was refused, or a source or the sink failed
 abbrev pub Says : Option Text → Option Text → ℕ → ℕ → Text → Type 0
@@ -60,13 +62,14 @@ pub record IsMisfitAt (script : Option (List Text)) (left : Option Text) (moves 
   pub misfit : fits script (move.At n kind) ≡ false
 
 -- what a form says of such logs, each exactly
-pub record SaysExactly (script : Option (List Text)) (said : Said) (why : Why)
+pub record SaysExactly (script : Option (List Text)) (sought : Sought) (said : Said) (why : Why)
     (left took took' : Option Text) (result : ℕ) : Type 0 where
-  pub whole : (moves : List Move) → IsWhole script left moves
-      → Says took took' result 0 (said true moves)
+  pub whole : (moves : List Move) (w : IsWhole script left moves)
+      → Says took took' result (sought_status sought w.life)
+      (said true moves ++ sought_words sought w.life)
   pub cut : (moves : List Move) (c : IsCut script left moves)
       → Says took took' result 3 (said false moves
-      ++ close_words why c.life (closing.Ended (ending.No (length moves + 1) c.refused)))
+      ++ close_words sought why c.life (closing.Ended (ending.No (length moves + 1) c.refused)))
   pub misfit : (moves : List Move) (n : ℕ) → IsMisfitAt script left moves n
       → Says took took' result 6 (said false moves
-      ++ close_words why unstarted (closing.Misfit n))
+      ++ close_words sought why unstarted (closing.Misfit n))

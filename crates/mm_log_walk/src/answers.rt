@@ -8,6 +8,7 @@ ghost use Rattle.mm_log_walk.specs.{is_broken, ends_well, closing_status, close_
 use crate::closings::Closing;
 use crate::lines::Lines;
 use crate::replays::tell_log;
+use crate::seeking::{Sought, put_lacking, sought_status};
 use crate::tellers::Teller;
 use mm_io::{Sink, Source};
 use mm_log_check::{Ending, write_flushed};
@@ -22,11 +23,11 @@ const NO_MEMORY: u8 = 1;
 /// The status where a write failed.
 const OUT_FAULT: u8 = 5;
 
-fn status_of(closing: Closing) -> u8
-    ensures { result ≡ closing_status closing }
+fn status_of(closing: Closing, sought: Sought, life: &Life) -> u8
+    ensures { result ≡ closing_status sought (life_of life.now) closing }
 {
     match closing {
-        Closing::Ended(Ending::Yes) => 0,
+        Closing::Ended(Ending::Yes) => sought_status(sought, life),
         Closing::Ended(Ending::No(_, _)) => 3,
         Closing::Ended(Ending::TooLong) => 8,
         Closing::Ended(Ending::ReadFault) => 4,
@@ -70,7 +71,7 @@ fn put_number(words: &[u8], n: u64, text: &mut Vec<u8>) -> Result<(), NoMemory>
 
 /// Writes some words, a number and a line feed.
 #[tactic(auto, using(mm_text::proofs::DigitCounts::joined))]
-fn put_numbered(words: &[u8], n: u64, text: &mut Vec<u8>) -> Result<(), NoMemory>
+pub(crate) fn put_numbered(words: &[u8], n: u64, text: &mut Vec<u8>) -> Result<(), NoMemory>
     requires { length words.now ≤ 20 }
     ensures { OnOk result (text.new.items ≡ text.old.items ++ numbered words.now n (10 ∷ [])) }
 {
@@ -117,17 +118,19 @@ fn put_bad_line<T: Teller>(
     Ok(())
 }
 
-/// Writes where the log or the script is bad.
+/// Writes what the log lacks, or where it or the script is bad.
 fn put_close<T: Teller>(
     closing: Closing,
+    sought: Sought,
     life: &Life,
     teller: &T,
     text: &mut Vec<u8>,
 ) -> Result<(), NoMemory>
     ensures { OnOk result (text.new.items ≡ text.old.items
-        ++ close_words T.why (life_of life.now) closing) }
+        ++ close_words sought T.why (life_of life.now) closing) }
 {
     match closing {
+        Closing::Ended(Ending::Yes) => put_lacking(sought, life, text),
         Closing::Ended(Ending::No(line, refused)) => {
             put_bad_line(line, refused, life, teller, text)
         }
@@ -143,16 +146,17 @@ fn put_close<T: Teller>(
 /// Writes what is left to write once a log was told.
 fn put_end<T: Teller>(
     closing: Closing,
+    sought: Sought,
     life: &Life,
     teller: &mut T,
     text: &mut Vec<u8>,
 ) -> Result<(), NoMemory>
     ensures { OnOk result (text.new.items
         ≡ (text.old.items ++ T.rest teller.old (ends_well closing) (life_of life.now) [])
-        ++ close_words T.why (life_of life.now) closing) }
+        ++ close_words sought T.why (life_of life.now) closing) }
 {
     teller.finish(ends_well(closing), life, text)?;
-    put_close(closing, life, teller, text)
+    put_close(closing, sought, life, teller, text)
 }
 
 /// Tells a log with a state before its first move.
@@ -160,6 +164,7 @@ fn told_on<S: Source, T: Teller, O: Sink>(
     life: &mut Life,
     alloc: Global,
     script: &Option<Lines>,
+    sought: Sought,
     log: &mut S,
     teller: &mut T,
     out: &mut O,
@@ -167,7 +172,7 @@ fn told_on<S: Source, T: Teller, O: Sink>(
     requires life { life_of life.old ≡ unstarted }
     requires counted { T.counted teller.old ≡ 0 }
     ensures answers { Answers (S.left log.old) (S.left log.new) (O.taken out.old) (O.taken out.new)
-        script.now (said_by (T.rest teller.old)) T.why result }
+        script.now sought (said_by (T.rest teller.old)) T.why result }
     ensures later { (S.faults log.old ≤ S.faults log.new) × (O.faults out.old ≤ O.faults out.new) }
     ensures read_fault { result ≡ 4 → Rose (S.faults log.old) (S.faults log.new) }
     ensures out_fault { result ≡ 5 → Rose (O.faults out.old) (O.faults out.new) }
@@ -178,33 +183,34 @@ fn told_on<S: Source, T: Teller, O: Sink>(
     let mut text = Vec::new(alloc);
     let closing = tell_log(life, script, log, teller, &mut text, out);
     if is_broken(closing) {
-        return status_of(closing);
+        return status_of(closing, sought, life);
     }
-    match put_end(closing, life, teller, &mut text) {
+    match put_end(closing, sought, life, teller, &mut text) {
         Ok(()) => {}
         Err(NoMemory) => return NO_MEMORY,
     }
     match write_flushed(out, text.as_slice()) {
-        Ok(()) => status_of(closing),
+        Ok(()) => status_of(closing, sought, life),
         Err(Failed) => OUT_FAULT,
     }
 }
 
 /// Tells a log: writes its text to `out`, in pieces of some 32 KiB while the log is read, and
-/// flushes it. The status is 0 where the log replays and fits the script, 1 where memory was
-/// refused, 3 where a line is no legal move, 4 where a read failed, 5 where a write failed, 6 where
-/// the script does not fit, 8 where the log is too long. With 1 and 5 a front of the text may have
-/// been written.
+/// flushes it. The status is 0 where the log replays, fits the script and has what is sought, 1
+/// where memory was refused, 3 where a line is no legal move, 4 where a read failed, 5 where a write
+/// failed, 6 where the script does not fit or the log has not what is sought, 8 where the log is too
+/// long. With 1 and 5 a front of the text may have been written.
 pub fn answered<S: Source, T: Teller, O: Sink>(
     alloc: Global,
     script: &Option<Lines>,
+    sought: Sought,
     log: &mut S,
     teller: &mut T,
     out: &mut O,
 ) -> u8
     requires { T.counted teller.old ≡ 0 }
     ensures answers { Answers (S.left log.old) (S.left log.new) (O.taken out.old) (O.taken out.new)
-        script.now (said_by (T.rest teller.old)) T.why result }
+        script.now sought (said_by (T.rest teller.old)) T.why result }
     ensures later { (S.faults log.old ≤ S.faults log.new) × (O.faults out.old ≤ O.faults out.new) }
     ensures read_fault { result ≡ 4 → Rose (S.faults log.old) (S.faults log.new) }
     ensures out_fault { result ≡ 5 → Rose (O.faults out.old) (O.faults out.new) }
@@ -213,5 +219,5 @@ pub fn answered<S: Source, T: Teller, O: Sink>(
     ensures gave { result ≢ 1 → result ≢ 5 → O.given out.new ≡ O.taken out.new }
 {
     let mut life = Life::new(alloc);
-    told_on(&mut life, alloc, script, log, teller, out)
+    told_on(&mut life, alloc, script, sought, log, teller, out)
 }

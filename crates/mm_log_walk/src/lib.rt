@@ -9,6 +9,7 @@ mod fitting;
 mod lines;
 mod pouring;
 mod replays;
+mod seeking;
 mod shown;
 mod tellers;
 
@@ -17,5 +18,6 @@ pub use classifiers::{Classed, Classifier, Pending};
 pub use closings::Closing;
 pub use files::{FileFault, named_bytes, named_lines};
 pub use lines::Lines;
+pub use seeking::Sought;
 pub use shown::{answers_are_read_again, put_answers, put_file, put_line};
 pub use tellers::Teller;

@@ -2,6 +2,9 @@ pub mod Walks
 pub mod Cells
 pub mod Tellings
 pub mod Marks
+pub mod Runs
+pub mod Behind
+pub mod CsvRows
 pub mod Standing
 pub mod Adding
 pub mod Rows
@@ -11,8 +14,9 @@ pub mod Shares
 pub mod Summing
 pub mod Told
 pub use Walks.{next_begun, next_there, one_more, read_all, read_out}
-pub use Tellings.{counts_taken, said_taken}
-pub use Marks.{lines_more}
+pub use Tellings.{counts_taken, rows_ended, said_taken}
+pub use Runs.{one_left, run_ended, run_longer, runs_begun, runs_over}
+pub use CsvRows.{counts_joined, faults_joined}
 pub use Standing.{state_taken}
 pub use Adding.{add_up}
 pub use Rows.{five, pair_is, set_told, three}

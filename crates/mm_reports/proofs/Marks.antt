@@ -1,10 +1,8 @@
--- Flags for the frames of a list, and rows by number.
-use Rattle.std.proofs.Common.{◌≡◌, ℕ, zero, suc, ◌+◌, ◌-◌, ◌<◌, ◌≤◌, Bool, true, false, List, [], ◌∷◌, ◌++◌, length, get_or, set, replicate, refl, sym, ap, ◌∙◌, arith, append_assoc, get_or-set_same, get_or-set_other}
+-- Flags for the frames of a list.
+use Rattle.std.proofs.Common.{◌≡◌, ℕ, zero, suc, ◌<◌, ◌≤◌, Bool, true, false, List, [], ◌∷◌, length, get_or, set, replicate, refl, sym, ap, ◌∙◌, arith, get_or-set_same, get_or-set_other}
 use Rattle.std.specs.Prelude.{◌==◌, ◌||◌, slice_set, slice_index_or}
 use Rattle.std.proofs.lemmas.Bool.{eqb-true, eqb-false}
-use Rattle.mm_types.specs.{Text, Record}
-use Rattle.mm_move_rules.specs.{FrameTable, record_at, is_on}
-use Rattle.mm_reports.specs.{frame_line, frame_lines}
+use Rattle.mm_move_rules.specs.{is_on}
 
 or_true : (a b : Bool) → b ≡ true → (a || b) ≡ true
 or_true true b e = refl
@@ -47,21 +45,3 @@ pub mark_last : (marks : List Bool) (f : ℕ) → slice_index_or marks f false �
 mark_last marks f = sym (or_false (slice_index_or marks f false))
 
 pub ruleset marks = (mark_one, mark_none, mark_first, mark_last)
-
--- one row more
-pub lines_step : (d : FrameTable) (f n : ℕ) → f < n → frame_lines d f (n - f) ≡ frame_line d f (record_at d f) ++ frame_lines d (f + 1) (n - (f + 1))
-lines_step d f n h =
-    let e : n - f ≡ suc (n - (f + 1)) = omega (arith, h) in
-    ap (λ (k : ℕ). frame_lines d f k) e
-
-pub lines_more : (d : FrameTable) (f n : ℕ) (r : Record) (text text1 whole : Text) → text1 ≡ text ++ frame_line d f r → r ≡ record_at d f → f < n → text ++ frame_lines d f (n - f) ≡ whole
-    → text1 ++ frame_lines d (f + 1) (n - (f + 1)) ≡ whole
-lines_more d f n r text text1 whole e is h so_far =
-    let rest : Text = frame_lines d (f + 1) (n - (f + 1)) in
-    ap (λ t. t ++ rest) (e ∙ ap (λ (x : Record). text ++ frame_line d f x) is) ∙ append_assoc text (frame_line d f (record_at d f)) rest
-    ∙ ap (λ t. text ++ t) (sym (lines_step d f n h)) ∙ so_far
-
-pub lines_end : (d : FrameTable) (f n : ℕ) → n ≤ f → frame_lines d f (n - f) ≡ []
-lines_end d f n h = let e : n - f ≡ 0 = omega (arith, h) in ap (λ (k : ℕ). frame_lines d f k) e
-
-pub ruleset lines = (lines_more, lines_end)

@@ -23,4 +23,4 @@ tally_of c = record {
 
 abbrev pub fault_rest : FaultTeller → Bool → FrameLife → List Move → Text
 fault_rest t whole l ms =
-    tally_said whole (tally_from (tally_of t.counters) l (marks_of t.marks) t.before ms)
+    tally_said t.style whole (tally_from (tally_of t.counters) l (marks_of t.marks) t.before ms)

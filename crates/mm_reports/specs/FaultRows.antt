@@ -5,8 +5,12 @@ use Rattle.std.specs.Prelude.{flat_map, slice_index, codes}
 use Rattle.mm_types.specs.{Text, decimal, Move}
 use Rattle.mm_move_rules.specs.{numbered}
 use Rattle.mm_text.specs.{left_in, right_in, numbers_in}
+use Rattle.mm_csv.specs.{csv_row}
 use Rattle.mm_reports.specs.Faults.{FaultPlace}
+use Rattle.mm_reports.specs.Fields.{fault_fields}
 use Rattle.mm_reports.specs.Tallies.{Table, Tally, fault_tally}
+use Rattle.mm_reports.specs.declared.styles.Style.{Style}
+use Rattle.mm_reports.specs.declared.styles.Style.TheVariants as style
 
 abbrev pub fault_head : Text
 fault_head =
@@ -36,12 +40,21 @@ letter shared = if shared then codes "s" else codes "p"
 abbrev pub fault_page_text : FaultPlace → Text
 fault_page_text place = letter place.1 ++ (decimal place.2 ++ (codes "." ++ decimal place.3))
 
--- the row of a page, if it is of this process
-abbrev pub page_row : ℕ → FaultPlace × List ℕ → Text
-page_row pid e = if e.0.0 == pid then fault_row pid (fault_page_text e.0) e.1 else []
+abbrev pub fault_csv_head : Text
+fault_csv_head =
+    codes "process,page,hard,standby,modified,writing,active,demand-zero,copy,collided" ++ 10 ∷ []
 
-abbrev pub process_rows : Table FaultPlace → ℕ × List ℕ → Text
-process_rows pages e = fault_row e.0 (codes "all") e.1 ++ flat_map (page_row e.0) pages
+abbrev pub fault_row_in : Style → ℕ → Text → List ℕ → Text
+fault_row_in style.Columns pid page counts = fault_row pid page counts
+fault_row_in style.Csv pid page counts = csv_row (fault_fields pid page counts)
+
+-- the row of a page, if it is of this process
+abbrev pub page_row : Style → ℕ → FaultPlace × List ℕ → Text
+page_row s pid e = if e.0.0 == pid then fault_row_in s pid (fault_page_text e.0) e.1 else []
+
+abbrev pub process_rows : Style → Table FaultPlace → ℕ × List ℕ → Text
+process_rows s pages e =
+    fault_row_in s e.0 (codes "all") e.1 ++ flat_map (page_row s e.0) pages
 
 -- how reads of a device ended, and writes
 unfoldable pub reads_text : ℕ → ℕ → Text
@@ -70,16 +83,19 @@ soft_text soft first_uses =
 abbrev pub check_row : Tally → Text
 check_row t = hard_text t.zero_fills t.hard ++ soft_text t.soft t.first_uses
 
-abbrev pub tally_text : Tally → Text
-tally_text t =
-    fault_head ++ (flat_map (process_rows t.pages) t.processes
+-- the table; in columns with what is counted of the devices, and as a check of the log counts
+abbrev pub tally_text : Style → Tally → Text
+tally_text style.Columns t =
+    fault_head ++ (flat_map (process_rows style.Columns t.pages) t.processes
     ++ (device_row (codes "paging file") t.paging_file ++ (device_row (codes "files") t.files
     ++ check_row t)))
+tally_text style.Csv t =
+    fault_csv_head ++ flat_map (process_rows style.Csv t.pages) t.processes
 
 -- nothing where the log does not replay
-abbrev pub tally_said : Bool → Tally → Text
-tally_said true t = tally_text t
-tally_said false t = []
+abbrev pub tally_said : Style → Bool → Tally → Text
+tally_said s true t = tally_text s t
+tally_said s false t = []
 
-abbrev pub fault_rows : Bool → List Move → Text
-fault_rows whole moves = tally_said whole (fault_tally moves)
+abbrev pub fault_rows : Style → Bool → List Move → Text
+fault_rows s whole moves = tally_said s whole (fault_tally moves)

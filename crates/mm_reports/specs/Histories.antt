@@ -78,12 +78,10 @@ held_text (held.Block b) = codes "block " ++ decimal b.0
 held_text held.Zero = codes "zero"
 held_text held.Dead = codes "dead"
 
--- what stands at the end of a whole log
+-- what stands at the end of a whole log; nothing of a frame that the machine does not have
 abbrev pub end_text : Subject → FrameLife → Text
 end_text (subject.Frame n) l =
-    if nat_lt n l.machine.frames
-    then codes "at the end: " ++ (frame_row l n ++ 10 ∷ [])
-    else codes "no such frame" ++ 10 ∷ []
+    if nat_lt n l.machine.frames then codes "at the end: " ++ (frame_row l n ++ 10 ∷ []) else []
 end_text (subject.Page k) l = codes "at the end: " ++ (held_text (held_at l k) ++ 10 ∷ [])
 
 -- ---- a history

@@ -1,8 +1,6 @@
 -- The lines of a log, as they end.
 -- Profile, "What a log shows".
-use Rattle.std.specs.Prelude.{ℕ, Bool, ◌&&◌, not, ◌==◌, if◌then◌else◌, List, [], ◌∷◌, ◌++◌, codes}
-use Rattle.std.specs.Prelude.{flat_map}
-use Rattle.std.specs.List.{list_any}
+use Rattle.std.specs.Prelude.{ℕ, Bool, ◌==◌, if◌then◌else◌, List, [], ◌∷◌, ◌++◌, flat_map}
 use Rattle.mm_types.specs.{Text, Move}
 use Rattle.mm_types.specs.declared.moves.Move.TheVariants as move
 use Rattle.mm_move_rules.specs.{FrameLife, after_move}
@@ -29,10 +27,3 @@ is_line line l = l.line == line
 -- what is said of the line of this number, if it is one of those that end so
 abbrev pub said_of : ℕ → (FrameLife → Text) → List FrameLife → Text
 said_of line say ends = flat_map (λ l. if is_line line l then say l else []) ends
-
-abbrev pub is_among : ℕ → List FrameLife → Bool
-is_among line ends = list_any (is_line line) ends
-
--- a whole log has no line of this number
-abbrev pub unless_found : Bool → Bool → Text
-unless_found whole found = if whole && not found then codes "no such line" ++ 10 ∷ [] else []

@@ -12,7 +12,7 @@ use Rattle.mm_types.specs.declared.moves.LineKind.TheVariants as kind
 use Rattle.mm_types.specs.declared.moves.Move.TheVariants as move
 use Rattle.mm_move_rules.specs.{ResidentSet, after_move, FrameTable, record_at, FrameLife, counts_of, unstarted, numbered}
 use Rattle.mm_sentences.specs.{frame_row_text, state_by}
-use Rattle.mm_reports.specs.Lines.{is_among, is_line, line_ends, unless_found}
+use Rattle.mm_reports.specs.Lines.{is_line}
 
 -- ---- the valid pages
 
@@ -42,14 +42,32 @@ frame_word f = 32 ∷ decimal f
 abbrev pub list_row : Text → List ℕ → Text
 list_row name frames = name ++ (flat_map frame_word frames ++ 10 ∷ [])
 
-abbrev pub frame_line : FrameTable → ℕ → Record → Text
-frame_line d f r =
-    numbered (codes "frame ") f (32 ∷ [] ++ (frame_row_text (state_by d f r) r ++ 10 ∷ []))
+-- what is told of a frame
+abbrev pub frame_words : FrameTable → ℕ → Text
+frame_words d f = frame_row_text (state_by d f (record_at d f)) (record_at d f)
 
--- so many frames from this number on
-abbrev pub frame_lines : FrameTable → ℕ → ℕ → Text
-frame_lines d f zero = []
-frame_lines d f (suc count) = frame_line d f (record_at d f) ++ frame_lines d (f + 1) count
+-- the numbers of so many frames from the first on: `frame 3`, `frames 3 to 60`
+abbrev pub frames_name : ℕ → ℕ → Text
+frames_name first last =
+    if first == last then codes "frame " ++ decimal first
+    else codes "frames " ++ (decimal first ++ (codes " to " ++ decimal last))
+
+abbrev pub run_line : ℕ → ℕ → Text → Text
+run_line first last words = frames_name first last ++ (32 ∷ (words ++ 10 ∷ []))
+
+-- the rows of so many frames that follow the last, where one row of several says what is told of
+-- each from the first to the last, and of no frame before or behind them
+abbrev pub runs_from : FrameTable → ℕ → ℕ → Text → ℕ → Text
+runs_from d first last words zero = run_line first last words
+runs_from d first last words (suc count) =
+    let next : Text = frame_words d (last + 1) in
+    if bytes_eq next words then runs_from d first (last + 1) words count
+    else run_line first last words ++ runs_from d (last + 1) (last + 1) next count
+
+-- the rows of so many frames
+abbrev pub frame_lines : FrameTable → ℕ → Text
+frame_lines d zero = []
+frame_lines d (suc count) = runs_from d 0 0 (frame_words d 0) count
 
 -- the number of a page, if it is of this process
 abbrev pub page_word : ℕ → ValidPage → Text
@@ -81,7 +99,7 @@ list_rows l =
 abbrev pub state_text : FrameLife → List ValidPage → Text
 state_text l pages =
     numbered (codes "after line ") l.line (10 ∷ [])
-    ++ (list_rows l ++ (frame_lines l.frames 0 l.machine.frames
+    ++ (list_rows l ++ (frame_lines l.frames l.machine.frames
     ++ (process_lines pages 1 l.sets ++ slots_line l)))
 
 -- ---- the line that is asked for
@@ -102,6 +120,4 @@ state_from line whole l pages (m ∷ ms) =
     state_ended_by line l pages m ++ state_from line whole (after_move l m) (pages_after pages m) ms
 
 abbrev pub state_rows : ℕ → Bool → List Move → Text
-state_rows line whole moves =
-    state_from line whole unstarted [] moves
-    ++ unless_found whole (is_among line (line_ends whole unstarted moves))
+state_rows line whole moves = state_from line whole unstarted [] moves

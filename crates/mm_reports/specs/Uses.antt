@@ -7,7 +7,7 @@ use Rattle.mm_types.specs.{Text, decimal, Counts, Record, Request, Move, Key}
 use Rattle.mm_types.specs.declared.numbers.Key.TheVariants.{Private, Shared}
 use Rattle.mm_move_rules.specs.{ResidentSet, record_at, has_request, FrameLife, unstarted, counts_of, is_active, is_in_transition, numbered}
 use Rattle.mm_text.specs.{right_in, numbers_in}
-use Rattle.mm_reports.specs.Lines.{line_ends, said_of, is_among, unless_found}
+use Rattle.mm_reports.specs.Lines.{line_ends, said_of}
 use Rattle.mm_reports.specs.declared.uses.Use.{Use}
 use Rattle.mm_reports.specs.declared.uses.Use.TheVariants as use_of_frames
 use Rattle.mm_reports.specs.declared.uses.Column.{Column}
@@ -125,6 +125,4 @@ use_text l =
     ++ (use_table l ++ (slots_row l ++ (requests_row l ++ set_rows 1 l.sets)))
 
 abbrev pub use_rows : ℕ → Bool → List Move → Text
-use_rows line whole moves =
-    let ends = line_ends whole unstarted moves in
-    said_of line use_text ends ++ unless_found whole (is_among line ends)
+use_rows line whole moves = said_of line use_text (line_ends whole unstarted moves)

@@ -1,18 +1,22 @@
-ghost use Rattle.std.specs.Prelude.{◌≡◌, ◌||◌, ◌++◌, [], Bool, List, OnOk, flat_map, true};
+ghost use Rattle.std.specs.Prelude.{◌≡◌, ◌++◌, Bool, List, OnOk, flat_map};
 ghost use Rattle.mm_types.specs.{Move};
 ghost use Rattle.mm_move_rules.specs.{unstarted};
 ghost use Rattle.mm_replay.specs.Standing.{life as life_of};
 ghost use Rattle.mm_move_classes.specs.{numbers_of};
 ghost use Rattle.mm_text.specs.{numbers_in};
-ghost use Rattle.mm_reports.specs.Counts.{counts_head, counts_row, counts_rows};
-ghost use Rattle.mm_reports.specs.Lines.{ended_line, ended_by, is_among, line_ends, said_of, unless_found};
+ghost use Rattle.mm_reports.specs.Counts.{counts_csv_head, counts_head, counts_head_in, counts_row};
+ghost use Rattle.mm_reports.specs.Counts.{counts_row_in, counts_rows, line_rows};
+ghost use Rattle.mm_reports.specs.Lines.{ended_line, ended_by, said_of};
 ghost use Rattle.mm_csv.specs.{head_left};
 ghost use Rattle.mm_reports.specs.CountsRest.{counts_rest, use_rest};
 ghost use Rattle.mm_reports.specs.Uses.{use_rows, use_text};
 ghost use Rattle.mm_sentences.specs.{why_text};
 
+use crate::charges::{Charge, charge_ended, charge_ended_by};
+use crate::csv_rows::put_counts_fields;
+use crate::styles::Style;
 use crate::tables::put_use;
-use mm_log_walk::Teller;
+use mm_log_walk::{Lines, Teller};
 use mm_move_classes::counts_in;
 use mm_replay::Life;
 use mm_sentences::{put_why, put_words};
@@ -28,11 +32,36 @@ fn put_head(text: &mut Vec<u8>) -> Result<(), NoMemory>
     put_words(b"     active transition      slots   requests\n", text)
 }
 
-/// Writes the head, unless it stands.
-fn put_head_left(begun: bool, text: &mut Vec<u8>) -> Result<(), NoMemory>
-    ensures { OnOk result (text.new.items ≡ text.old.items ++ head_left begun counts_head) }
+#[tactic(auto, using(mm_text::proofs::DigitCounts::joined))]
+fn put_csv_head(text: &mut Vec<u8>) -> Result<(), NoMemory>
+    ensures { OnOk result (text.new.items ≡ text.old.items ++ counts_csv_head) }
 {
-    if begun { Ok(()) } else { put_head(text) }
+    put_words(
+        b"line,zeroed,free,standby,modified,active,transition,",
+        text,
+    )?;
+    put_words(b"slots,requests,sets,charge,limit\n", text)
+}
+
+fn put_head_in(style: Style, text: &mut Vec<u8>) -> Result<(), NoMemory>
+    ensures { OnOk result (text.new.items ≡ text.old.items ++ counts_head_in style) }
+{
+    match style {
+        Style::Columns => put_head(text),
+        Style::Csv => put_csv_head(text),
+    }
+}
+
+/// Writes the head, unless it stands.
+fn put_head_left(style: Style, begun: bool, text: &mut Vec<u8>) -> Result<(), NoMemory>
+    ensures { OnOk result (text.new.items
+        ≡ text.old.items ++ head_left begun (counts_head_in style)) }
+{
+    if begun {
+        Ok(())
+    } else {
+        put_head_in(style, text)
+    }
 }
 
 /// Writes the eight counts.
@@ -52,54 +81,106 @@ fn put_counts_row(life: &Life, text: &mut Vec<u8>) -> Result<(), NoMemory>
     put_words(b"\n", text)
 }
 
-/// Writes the row of the line that ends here, if any has begun.
-fn put_ended(life: &Life, text: &mut Vec<u8>) -> Result<(), NoMemory>
+/// Writes the row of the line that ends here. What was in the room is lost.
+fn put_row(
+    style: Style,
+    charge: Option<Charge>,
+    life: &Life,
+    room: &mut Vec<u8>,
+    text: &mut Vec<u8>,
+) -> Result<(), NoMemory>
     ensures { OnOk result (text.new.items
-        ≡ text.old.items ++ flat_map counts_row (ended_line (life_of life.now))) }
+        ≡ text.old.items ++ counts_row_in style charge (life_of life.now)) }
+{
+    match style {
+        Style::Columns => put_counts_row(life, text),
+        Style::Csv => put_counts_fields(charge, life, room, text),
+    }
+}
+
+/// Writes the row of the line that ends here, if any has begun.
+fn put_ended(
+    style: Style,
+    charge: Option<Charge>,
+    life: &Life,
+    room: &mut Vec<u8>,
+    text: &mut Vec<u8>,
+) -> Result<(), NoMemory>
+    ensures { OnOk result (text.new.items ≡ text.old.items
+        ++ flat_map (counts_row_in style charge) (ended_line (life_of life.now))) }
 {
     if life.line() == 0 {
         return Ok(());
     }
-    put_counts_row(life, text)
+    put_row(style, charge, life, room, text)
 }
 
 /// Writes the row of the line that ends as this move comes, if any does.
-fn put_ended_by(life: &Life, m: &Move, text: &mut Vec<u8>) -> Result<(), NoMemory>
-    ensures { OnOk result (text.new.items
-        ≡ text.old.items ++ flat_map counts_row (ended_by (life_of life.now) m.now)) }
+fn put_ended_by(
+    style: Style,
+    charge: Option<Charge>,
+    life: &Life,
+    m: &Move,
+    room: &mut Vec<u8>,
+    text: &mut Vec<u8>,
+) -> Result<(), NoMemory>
+    ensures { OnOk result (text.new.items ≡ text.old.items
+        ++ flat_map (counts_row_in style charge) (ended_by (life_of life.now) m.now)) }
 {
     match *m {
-        Move::At(_, _) => put_ended(life, text),
+        Move::At(_, _) => put_ended(style, charge, life, room, text),
         _ => Ok(()),
     }
 }
 
-/// Writes the row of the last line, if the log is whole.
-fn put_ended_if(whole: bool, life: &Life, text: &mut Vec<u8>) -> Result<(), NoMemory>
-    ensures { OnOk result (text.new.items
-        ≡ text.old.items ++ flat_map counts_row (line_ends whole (life_of life.now) [])) }
-{
-    if whole { put_ended(life, text) } else { Ok(()) }
-}
-
 /// Tells the counts after each line.
 #[derive(Drop)]
-pub struct CountsTeller {
+pub struct CountsTeller<'a> {
+    style: Style,
+    script: &'a Option<Lines>,
+    answers: &'a Option<Lines>,
     /// Whether the head stands.
     begun: bool,
+    /// The charge that was told last.
+    charge: Option<Charge>,
+    /// Room for a field, which is not made anew for each line.
+    room: Vec<u8>,
 }
 
-impl CountsTeller {
-    /// Nothing was told.
-    pub fn new() -> CountsTeller
-        ensures { (whole : Bool) (moves : List Move)
-            → counts_rest result whole unstarted moves ≡ counts_rows whole moves }
+impl<'a> CountsTeller<'a> {
+    /// Nothing was told. `script` and `answers` are those of the log's run, where they are named;
+    /// the charge that they tell stands in rows of csv.
+    pub fn new(
+        alloc: Global,
+        style: Style,
+        script: &'a Option<Lines>,
+        answers: &'a Option<Lines>,
+    ) -> CountsTeller<'a>
+        ensures { (whole : Bool) (moves : List Move) → counts_rest result whole unstarted moves
+            ≡ counts_rows style script.now answers.now whole moves }
     {
-        CountsTeller { begun: false }
+        CountsTeller {
+            style,
+            script,
+            answers,
+            begun: false,
+            charge: None,
+            room: Vec::new(alloc),
+        }
+    }
+
+    /// Writes the row of the last line of a whole log.
+    fn put_last(&mut self, life: &Life, text: &mut Vec<u8>) -> Result<(), NoMemory>
+        ensures { OnOk result (text.new.items ≡ text.old.items
+            ++ line_rows self.old.style self.old.script.now self.old.answers.now self.old.charge
+            (ended_line (life_of life.now))) }
+    {
+        let charge = charge_ended(self.script, self.answers, self.charge, life);
+        put_ended(self.style, charge, life, &mut self.room, text)
     }
 }
 
-impl Teller for CountsTeller {
+impl<'a> Teller for CountsTeller<'a> {
     ghost rest = { counts_rest };
 
     ghost counted = { λ t. 0 };
@@ -107,16 +188,21 @@ impl Teller for CountsTeller {
     ghost why = { why_text };
 
     fn take(&mut self, life: &Life, m: &Move, text: &mut Vec<u8>) -> Result<(), NoMemory> {
-        put_head_left(self.begun, text)?;
+        put_head_left(self.style, self.begun, text)?;
         self.begun = true;
-        put_ended_by(life, m, text)?;
+        self.charge = charge_ended_by(self.script, self.answers, self.charge, life, m);
+        put_ended_by(self.style, self.charge, life, m, &mut self.room, text)?;
         Ok(())
     }
 
     #[tactic(auto, using(mm_text::proofs::DigitCounts::joined))]
     fn finish(&mut self, whole: bool, life: &Life, text: &mut Vec<u8>) -> Result<(), NoMemory> {
-        put_head_left(self.begun, text)?;
-        put_ended_if(whole, life, text)
+        put_head_left(self.style, self.begun, text)?;
+        if whole {
+            self.put_last(life, text)
+        } else {
+            Ok(())
+        }
     }
 
     fn tell_why(&self, life: &Life, m: &Move, text: &mut Vec<u8>) -> Result<(), NoMemory> {
@@ -152,55 +238,11 @@ fn put_said_by(
     }
 }
 
-/// Whether the line that ends here is this one.
-fn is_ended(line: u32, life: &Life) -> bool
-    ensures { result ≡ is_among line (ended_line (life_of life.now)) }
-{
-    life.line() != 0 && life.line() == line
-}
-
-/// Whether the line that ends as this move comes is this one.
-fn is_ended_by(line: u32, life: &Life, m: &Move) -> bool
-    ensures { result ≡ is_among line (ended_by (life_of life.now) m.now) }
-{
-    match *m {
-        Move::At(_, _) => is_ended(line, life),
-        _ => false,
-    }
-}
-
-/// Whether the line has ended, now that this move comes.
-pub(crate) fn found_by(found: bool, line: u32, life: &Life, m: &Move) -> bool
-    ensures { result ≡ (found || is_among line (ended_by (life_of life.now) m.now)) }
-{
-    found || is_ended_by(line, life, m)
-}
-
-/// Whether the line has ended, now that the log ends.
-pub(crate) fn found_at(found: bool, line: u32, life: &Life) -> bool
-    ensures { result ≡ (found || is_among line (ended_line (life_of life.now))) }
-{
-    found || is_ended(line, life)
-}
-
-/// Writes that a whole log has no such line, unless it was found.
-pub(crate) fn put_unless_found(whole: bool, found: bool, text: &mut Vec<u8>) -> Result<(), NoMemory>
-    ensures { OnOk result (text.new.items ≡ text.old.items ++ unless_found whole found) }
-{
-    if whole && !found {
-        put_words(b"no such line\n", text)
-    } else {
-        Ok(())
-    }
-}
-
 /// Tells what the page frames are used for after one line.
 #[derive(Drop)]
 pub struct UseTeller {
     alloc: Global,
     line: u32,
-    /// Whether the line has ended.
-    found: bool,
 }
 
 impl UseTeller {
@@ -209,21 +251,7 @@ impl UseTeller {
         ensures { (whole : Bool) (moves : List Move)
             → use_rest result whole unstarted moves ≡ use_rows line whole moves }
     {
-        UseTeller {
-            alloc,
-            line,
-            found: false,
-        }
-    }
-
-    /// Writes what is said of the last line of a whole log, or that it has no such line.
-    #[tactic(auto, using(mm_text::proofs::DigitCounts::joined))]
-    fn put_last(&self, life: &Life, text: &mut Vec<u8>) -> Result<(), NoMemory>
-        ensures { OnOk result (text.new.items ≡ text.old.items
-            ++ use_rest self.now true (life_of life.now) []) }
-    {
-        put_said(self.alloc, self.line, life, text)?;
-        put_unless_found(true, found_at(self.found, self.line, life), text)
+        UseTeller { alloc, line }
     }
 }
 
@@ -235,14 +263,12 @@ impl Teller for UseTeller {
     ghost why = { why_text };
 
     fn take(&mut self, life: &Life, m: &Move, text: &mut Vec<u8>) -> Result<(), NoMemory> {
-        put_said_by(self.alloc, self.line, life, m, text)?;
-        self.found = found_by(self.found, self.line, life, m);
-        Ok(())
+        put_said_by(self.alloc, self.line, life, m, text)
     }
 
     fn finish(&mut self, whole: bool, life: &Life, text: &mut Vec<u8>) -> Result<(), NoMemory> {
         if whole {
-            self.put_last(life, text)
+            put_said(self.alloc, self.line, life, text)
         } else {
             Ok(())
         }

@@ -1,10 +1,13 @@
 ghost use Rattle.std.specs.Prelude.{◌≡◌, ◌<◌, ◌≤◌, ◌+◌, ◌*◌, ◌/◌, ◌^◌, ◌++◌, OnOk, flat_map};
 ghost use Rattle.std.specs.Prelude.{length};
-ghost use Rattle.mm_reports.specs.{tally_of, fault_head, soft_in, share, fault_row, letter, fault_page_text, page_row, process_rows, device_row, check_row};
-ghost use Rattle.mm_reports.specs.{tally_text, reads_text, writes_text, hard_text, soft_text};
+ghost use Rattle.mm_reports.specs.{tally_of, fault_head, soft_in, share, fault_row, letter, fault_page_text, page_row, process_rows, device_row};
+ghost use Rattle.mm_reports.specs.{check_row, tally_text, reads_text, writes_text, hard_text, soft_text, fault_csv_head, fault_row_in};
+ghost use Rattle.mm_reports.specs.declared.styles.Style.TheVariants as style;
 
 use crate::counters::Counters;
+use crate::csv_rows::put_fault_fields;
 use crate::kinds::FaultPlace;
+use crate::styles::Style;
 use mm_sentences::{put_pair, put_words};
 use mm_text::{LineBuf, put_decimal, put_left, put_numbers, put_right_number};
 use mm_types::NoMemory;
@@ -57,7 +60,7 @@ fn put_share(hard: u64, soft: u128, text: &mut Vec<u8>) -> Result<(), NoMemory>
     put_words(b" %", text)
 }
 
-/// Writes the row of a process and a page, or of all pages.
+/// Writes the row of a process and a page, or of all pages, in columns.
 #[tactic(auto, using(mm_text::proofs::DigitCounts::joined))]
 fn put_fault_row(
     pid: u8,
@@ -75,6 +78,23 @@ fn put_fault_row(
     put_numbers(10, counts, text)?;
     put_share(counts[0], soft_in(counts), text)?;
     put_words(b"\n", text)
+}
+
+/// Writes the row of a process and a page, or of all pages.
+fn put_row(
+    style: Style,
+    pid: u8,
+    page: &[u8],
+    counts: &[u64; 8],
+    text: &mut Vec<u8>,
+) -> Result<(), NoMemory>
+    ensures { OnOk result (text.new.items
+        ≡ text.old.items ++ fault_row_in style pid page.now counts.now) }
+{
+    match style {
+        Style::Columns => put_fault_row(pid, page, counts, text),
+        Style::Csv => put_fault_fields(pid, page, counts, text),
+    }
 }
 
 /// The letter of a key: of a shared page, or of a private one.
@@ -100,16 +120,17 @@ fn page_line(place: FaultPlace) -> LineBuf
 
 /// Writes the row of a page, if it is of this process.
 fn put_page_row(
+    style: Style,
     pid: u8,
     place: FaultPlace,
     counts: &[u64; 8],
     text: &mut Vec<u8>,
 ) -> Result<(), NoMemory>
     ensures { OnOk result (text.new.items
-        ≡ text.old.items ++ page_row pid (place, counts.now)) }
+        ≡ text.old.items ++ page_row style pid (place, counts.now)) }
 {
     if place.0 == pid {
-        put_fault_row(pid, page_line(place).as_slice(), counts, text)
+        put_row(style, pid, page_line(place).as_slice(), counts, text)
     } else {
         Ok(())
     }
@@ -117,15 +138,16 @@ fn put_page_row(
 
 /// Writes the rows of the pages of a process.
 fn put_page_rows(
+    style: Style,
     pages: &BTreeMap<FaultPlace, [u64; 8]>,
     pid: u8,
     text: &mut Vec<u8>,
 ) -> Result<(), NoMemory>
     ensures { OnOk result (text.new.items
-        ≡ text.old.items ++ flat_map (page_row pid) pages.now.entries) }
+        ≡ text.old.items ++ flat_map (page_row style pid) pages.now.entries) }
 {
     for (place, counts) in pages {
-        put_page_row(pid, *place, counts, text)?;
+        put_page_row(style, pid, *place, counts, text)?;
     }
     Ok(())
 }
@@ -133,29 +155,31 @@ fn put_page_rows(
 /// Writes the rows of a process: of all its pages together, and of each.
 #[tactic(auto, using(mm_text::proofs::DigitCounts::joined))]
 fn put_process(
+    style: Style,
     pages: &BTreeMap<FaultPlace, [u64; 8]>,
     pid: u8,
     counts: &[u64; 8],
     text: &mut Vec<u8>,
 ) -> Result<(), NoMemory>
     ensures { OnOk result (text.new.items
-        ≡ text.old.items ++ process_rows pages.now.entries (pid, counts.now)) }
+        ≡ text.old.items ++ process_rows style pages.now.entries (pid, counts.now)) }
 {
-    put_fault_row(pid, b"all", counts, text)?;
-    put_page_rows(pages, pid, text)
+    put_row(style, pid, b"all", counts, text)?;
+    put_page_rows(style, pages, pid, text)
 }
 
 /// Writes the rows of all processes.
 fn put_processes(
+    style: Style,
     pages: &BTreeMap<FaultPlace, [u64; 8]>,
     processes: &BTreeMap<u8, [u64; 8]>,
     text: &mut Vec<u8>,
 ) -> Result<(), NoMemory>
     ensures { OnOk result (text.new.items
-        ≡ text.old.items ++ flat_map (process_rows pages.now.entries) processes.now.entries) }
+        ≡ text.old.items ++ flat_map (process_rows style pages.now.entries) processes.now.entries) }
 {
     for (pid, counts) in processes {
-        put_process(pages, *pid, counts, text)?;
+        put_process(style, pages, *pid, counts, text)?;
     }
     Ok(())
 }
@@ -233,15 +257,50 @@ fn put_check(counters: &Counters, text: &mut Vec<u8>) -> Result<(), NoMemory>
     put_soft(counters.soft, counters.first_uses, text)
 }
 
-/// Writes all that was counted.
+/// Writes all that was counted, in columns.
 #[tactic(auto, using(mm_text::proofs::DigitCounts::joined))]
-pub(crate) fn put_tally(counters: &Counters, text: &mut Vec<u8>) -> Result<(), NoMemory>
+fn put_columns(counters: &Counters, text: &mut Vec<u8>) -> Result<(), NoMemory>
     ensures { OnOk result (text.new.items
-        ≡ text.old.items ++ tally_text (tally_of counters.now)) }
+        ≡ text.old.items ++ tally_text style.Columns (tally_of counters.now)) }
 {
     put_head(text)?;
-    put_processes(&counters.pages, &counters.processes, text)?;
+    put_processes(Style::Columns, &counters.pages, &counters.processes, text)?;
     put_device(b"paging file", &counters.paging_file, text)?;
     put_device(b"files", &counters.files, text)?;
     put_check(counters, text)
+}
+
+#[tactic(auto, using(mm_text::proofs::DigitCounts::joined))]
+fn put_csv_head(text: &mut Vec<u8>) -> Result<(), NoMemory>
+    ensures { OnOk result (text.new.items ≡ text.old.items ++ fault_csv_head) }
+{
+    put_words(
+        b"process,page,hard,standby,modified,writing,active,demand-zero,copy,collided\n",
+        text,
+    )
+}
+
+/// Writes the faults by the rule of csv.
+#[tactic(auto, using(mm_text::proofs::DigitCounts::joined))]
+fn put_csv(counters: &Counters, text: &mut Vec<u8>) -> Result<(), NoMemory>
+    ensures { OnOk result (text.new.items
+        ≡ text.old.items ++ tally_text style.Csv (tally_of counters.now)) }
+{
+    put_csv_head(text)?;
+    put_processes(Style::Csv, &counters.pages, &counters.processes, text)
+}
+
+/// Writes the table of what was counted.
+pub(crate) fn put_tally(
+    style: Style,
+    counters: &Counters,
+    text: &mut Vec<u8>,
+) -> Result<(), NoMemory>
+    ensures { OnOk result (text.new.items
+        ≡ text.old.items ++ tally_text style (tally_of counters.now)) }
+{
+    match style {
+        Style::Columns => put_columns(counters, text),
+        Style::Csv => put_csv(counters, text),
+    }
 }

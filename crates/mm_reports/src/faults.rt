@@ -9,6 +9,7 @@ ghost use Rattle.mm_sentences.specs.{why_text};
 
 use crate::counters::Counters;
 use crate::fault_tables::put_tally;
+use crate::styles::Style;
 use mm_log_walk::Teller;
 use mm_move_classes::{Class, Marks, class_of};
 use mm_replay::Life;
@@ -30,6 +31,7 @@ fn class_so_far(life: &Life, marks: &Marks, before: Option<Move>, m: &Move) -> O
 /// Tells the faults of a log by process and page, and the traffic of its devices.
 #[derive(Drop)]
 pub struct FaultTeller {
+    style: Style,
     marks: Marks,
     before: Option<Move>,
     counters: Counters,
@@ -37,11 +39,12 @@ pub struct FaultTeller {
 
 impl FaultTeller {
     /// Nothing was counted.
-    pub fn new(alloc: Global) -> FaultTeller
+    pub fn new(alloc: Global, style: Style) -> FaultTeller
         ensures { (whole : Bool) (moves : List Move)
-            → fault_rest result whole unstarted moves ≡ fault_rows whole moves }
+            → fault_rest result whole unstarted moves ≡ fault_rows style whole moves }
     {
         FaultTeller {
+            style,
             marks: Marks::new(alloc),
             before: None,
             counters: Counters::new(alloc),
@@ -66,7 +69,7 @@ impl Teller for FaultTeller {
 
     fn finish(&mut self, whole: bool, _life: &Life, text: &mut Vec<u8>) -> Result<(), NoMemory> {
         if whole {
-            put_tally(&self.counters, text)
+            put_tally(self.style, &self.counters, text)
         } else {
             Ok(())
         }

@@ -3,11 +3,12 @@ ghost use Rattle.std.specs.Prelude.{slice_index_or};
 ghost use Rattle.mm_move_rules.specs.{is_on};
 ghost use Rattle.mm_replay.specs.Standing.{life as life_of};
 ghost use Rattle.mm_sentences.specs.{state_by};
-ghost use Rattle.mm_reports.specs.{AreMarked, frame_line, frame_lines};
+ghost use Rattle.mm_reports.specs.{AreMarked, frame_lines, frame_words};
 
+use crate::runs::FrameRun;
 use mm_move_classes::{has_request, is_read};
 use mm_replay::Life;
-use mm_sentences::{FrameState, put_numbered, put_row, put_words};
+use mm_sentences::{FrameState, put_row};
 use mm_types::{Frame, NoMemory, Record};
 use std::alloc::Global;
 
@@ -50,22 +51,19 @@ fn state_of(life: &Life, frame: Frame, r: &Record, is_zeroed: bool) -> FrameStat
     }
 }
 
-/// Writes the row of a frame of which it is known whether it is on the zeroed list.
-#[tactic(auto, using(mm_text::proofs::DigitCounts::joined))]
-fn put_frame(
+/// Writes what is told of a frame of which it is known whether it is on the zeroed list.
+pub(crate) fn put_frame_words(
     life: &Life,
     frame: Frame,
-    r: &Record,
     is_zeroed: bool,
     text: &mut Vec<u8>,
 ) -> Result<(), NoMemory>
     requires { is_zeroed ≡ is_on frame.0 (life_of life.now).frames.zeroed }
     ensures { OnOk result (text.new.items ≡ text.old.items
-        ++ frame_line (life_of life.now).frames frame.0 r.now) }
+        ++ frame_words (life_of life.now).frames frame.0) }
 {
-    put_numbered(b"frame ", u64::from(frame.0), b" ", text)?;
-    put_row(state_of(life, frame, r, is_zeroed), r, text)?;
-    put_words(b"\n", text)
+    let r = life.record(frame);
+    put_row(state_of(life, frame, &r, is_zeroed), &r, text)
 }
 
 /// Whether the frame is marked.
@@ -78,17 +76,26 @@ fn is_marked(marks: &[bool], frame: u32) -> bool
     }
 }
 
-/// Writes the rows of all frames, where the zeroed ones are marked.
-#[tactic(auto, using(crate::proofs::Marks::lines))]
-pub(crate) fn put_frames(life: &Life, zeroed: &[bool], text: &mut Vec<u8>) -> Result<(), NoMemory>
+/// Writes the rows of all frames, where the zeroed ones are marked: one row for frames that follow
+/// one another and are told in the same words.
+pub(crate) fn put_frames(
+    alloc: Global,
+    life: &Life,
+    zeroed: &[bool],
+    text: &mut Vec<u8>,
+) -> Result<(), NoMemory>
     requires { AreMarked zeroed.now (life_of life.now).machine.frames
         (life_of life.now).frames.zeroed }
     ensures { OnOk result (text.new.items ≡ text.old.items
-        ++ frame_lines (life_of life.now).frames 0 (life_of life.now).machine.frames) }
+        ++ frame_lines (life_of life.now).frames (life_of life.now).machine.frames) }
 {
-    for f in 0..life.frames() {
-        let frame = Frame(f);
-        put_frame(life, frame, &life.record(frame), is_marked(zeroed, f), text)?;
+    let frames = life.frames();
+    if frames == 0 {
+        return Ok(());
     }
-    Ok(())
+    let mut run = FrameRun::new(alloc, life, is_marked(zeroed, 0))?;
+    for f in 1..frames {
+        run.take(life, Frame(f), is_marked(zeroed, f), text)?;
+    }
+    run.end(text)
 }

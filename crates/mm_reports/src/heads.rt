@@ -88,7 +88,7 @@ fn put_frame_end(n: u32, life: &Life, text: &mut Vec<u8>) -> Result<(), NoMemory
     if n < life.frames() {
         put_standing(n, life, text)
     } else {
-        put_words(b"no such frame\n", text)
+        Ok(())
     }
 }
 

@@ -10,7 +10,6 @@ ghost use Rattle.mm_reports.specs.States.{state_at, state_ended_by, state_rows};
 ghost use Rattle.mm_reports.specs.StateRest.{state_rest};
 ghost use Rattle.mm_sentences.specs.{why_text};
 
-use crate::counts::{found_at, found_by, put_unless_found};
 use crate::frames::{marked, put_frames};
 use crate::lists::{FrameLists, frame_lists, requests};
 use mm_log_walk::Teller;
@@ -172,7 +171,7 @@ fn put_state(
     let zeroed = marked(alloc, life.frames() as usize, lists.zeroed.as_slice())?;
     put_numbered(b"after line ", u64::from(life.line()), b"\n", text)?;
     put_lists(alloc, life, &lists, text)?;
-    put_frames(life, zeroed.as_slice(), text)?;
+    put_frames(alloc, life, zeroed.as_slice(), text)?;
     put_processes(pages, life.sets(), text)?;
     put_slots(life, text)?;
     Ok(())
@@ -218,8 +217,6 @@ fn put_before(
 pub struct StateTeller {
     alloc: Global,
     line: u32,
-    /// Whether the line has ended.
-    found: bool,
     pages: ValidPages,
 }
 
@@ -232,20 +229,8 @@ impl StateTeller {
         StateTeller {
             alloc,
             line,
-            found: false,
             pages: BTreeSet::new(alloc),
         }
-    }
-
-    /// Writes the state at the end of a whole log, if it is asked for, or that there is no such
-    /// line.
-    #[tactic(auto, using(mm_text::proofs::DigitCounts::joined))]
-    fn put_last(&self, life: &Life, text: &mut Vec<u8>) -> Result<(), NoMemory>
-        ensures { OnOk result (text.new.items ≡ text.old.items
-            ++ state_rest self.now true (life_of life.now) []) }
-    {
-        put_at(self.alloc, self.line, life, &self.pages, text)?;
-        put_unless_found(true, found_at(self.found, self.line, life), text)
     }
 }
 
@@ -258,14 +243,13 @@ impl Teller for StateTeller {
 
     fn take(&mut self, life: &Life, m: &Move, text: &mut Vec<u8>) -> Result<(), NoMemory> {
         put_before(self.alloc, self.line, life, &self.pages, m, text)?;
-        self.found = found_by(self.found, self.line, life, m);
         follow(&mut self.pages, m)?;
         Ok(())
     }
 
     fn finish(&mut self, whole: bool, life: &Life, text: &mut Vec<u8>) -> Result<(), NoMemory> {
         if whole {
-            self.put_last(life, text)
+            put_at(self.alloc, self.line, life, &self.pages, text)
         } else {
             Ok(())
         }

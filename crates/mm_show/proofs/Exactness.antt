@@ -1,14 +1,17 @@
 -- What is written of a form, each exactly.
 use Rattle.std.proofs.Common.{◌≡◌, ℕ, Bool, true, false, List, Option, Some, None, refl, sym, ap, ◌∙◌, subst}
-use Rattle.std.specs.Prelude.{Result, Ok}
+use Rattle.std.specs.Prelude.{Result, Ok, option_map}
 use Rattle.mm_types.specs.{Text, Move}
-use Rattle.mm_log_walk.specs.{Said, said_by, Answers, RestOf, HasLines, FileFault}
+use Rattle.mm_log_walk.specs.{Said, said_by, Answers, RestOf, HasBytes, HasLines, FileFault, Sought}
 use Rattle.mm_move_rules.specs.{unstarted}
-use Rattle.mm_show.specs.{PageOf, form_said, form_why, sums_said, FileIs, sums_text, sum_rest, SumTeller, Form, page_rest, PageTeller, page_said}
-use Rattle.mm_show.specs.{whole_page_text}
+use Rattle.mm_show.specs.{PageOf, form_said, form_sought, form_why, sums_said, FileIs, sums_text, sum_rest, SumTeller, Form, FileHas, page_rest, PageTeller}
+use Rattle.mm_show.specs.{page_said, whole_page_text}
 
 abbrev read_as : Option (List Text) → Result (Option (List Text)) FileFault
 read_as lines = Ok lines
+
+abbrev ok_of : {V : Type 0} → Option V → Result (Option V) FileFault
+ok_of o = Ok o
 
 -- the lines that were read are those that are told
 pub file_lines : (named : Bool) (left : Option (Option Text)) (lines s : Option (List Text)) → FileIs named left s
@@ -22,6 +25,19 @@ file_lines true left None s f none has =
 file_lines true left (Some xs) s f none has =
     let lines : HasLines (Some (Some f.0)) (Some xs) = subst (λ (o : Option (Option Text)). HasLines o (Some xs)) f.1.0 (has refl) in
     ap Some (lines f.0 refl) ∙ sym f.1.1
+
+-- and the bytes
+pub file_bytes : {V : Type 0} (items : V → Text) (named : Bool) (left : Option (Option Text)) (bytes : Option V) (o : Option Text) → FileHas named left o
+    → (named ≡ false → ok_of bytes ≡ ok_of None) → (named ≡ true → HasBytes left (option_map items bytes)) → option_map items bytes ≡ o
+file_bytes items false left bytes o f none has =
+    let e : ok_of bytes ≡ ok_of None = none refl in
+    let none_is : bytes ≡ None = cc in
+    ap (λ b. option_map items b) none_is ∙ sym f
+file_bytes items true left None o f none has =
+    absurd (subst (λ (x : Option (Option Text)). HasBytes x None) f.1.0 (has refl))
+file_bytes items true left (Some v) o f none has =
+    let bytes : HasBytes (Some (Some f.0)) (Some (items v)) = subst (λ (x : Option (Option Text)). HasBytes x (Some (items v))) f.1.0 (has refl) in
+    ap Some (bytes f.0 refl) ∙ sym f.1.1
 
 -- what a teller says from the first move on is what its form says
 pub said_is : (rest : RestOf) (said : Said) → ((whole : Bool) (moves : List Move) → rest whole unstarted moves ≡ said whole moves) → said_by rest ≡ said
@@ -44,8 +60,10 @@ said_page t p script answers e = λ i. λ whole. λ moves. by whole moves i
     by false moves = refl
 
 -- told by the form that was asked for
-pub told_as : (f g : Form) (p : PageOf) (script answers : Option (List Text)) (left left' took took' : Option Text) (said : Said) (status : ℕ) → f ≡ g → said ≡ form_said g p script answers
-    → Answers left left' took took' script said (form_why g) status → Answers left left' took took' script (form_said f p script answers) (form_why f) status
-told_as f g p script answers left left' took took' said status e same h =
-    subst (λ (x : Form). Answers left left' took took' script (form_said x p script answers) (form_why x) status) (sym e)
-    (subst (λ (y : Said). Answers left left' took took' script y (form_why g) status) same h)
+pub told_as : (f g : Form) (p : PageOf) (script answers : Option (List Text)) (left left' took took' : Option Text) (sought : Sought) (said : Said) (status : ℕ) → f ≡ g → sought ≡ form_sought f
+    → said ≡ form_said g p script answers → Answers left left' took took' script sought said (form_why g) status
+    → Answers left left' took took' script (form_sought f) (form_said f p script answers) (form_why f) status
+told_as f g p script answers left left' took took' sought said status e asked same h =
+    subst (λ (s : Sought). Answers left left' took took' script s (form_said f p script answers) (form_why f) status) asked
+    (subst (λ (x : Form). Answers left left' took took' script sought (form_said x p script answers) (form_why x) status) (sym e)
+    (subst (λ (y : Said). Answers left left' took took' script sought y (form_why g) status) same h))

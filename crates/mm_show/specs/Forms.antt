@@ -3,13 +3,15 @@
 use Rattle.std.specs.Prelude.{ℕ, Bool, true, false, ◌==◌, bytes_eq, if◌then◌else◌, List, [], ◌∷◌}
 use Rattle.std.specs.Prelude.{length, Option, Some, None, codes, option_map, slice_index_or}
 use Rattle.std.specs.Prelude.{◌&&◌, nat_le}
-use Rattle.std.specs.Prelude.{◌+◌, ◌/◌, nat_lt, drop}
+use Rattle.std.specs.Prelude.{◌-◌, ◌/◌, nat_lt}
 use Rattle.std.specs.Prelude.{option_and_then}
 use Rattle.std.specs.List.{list_any}
 use Rattle.mm_types.specs.{Text, Key}
 use Rattle.mm_types.specs.declared.numbers.Key.TheVariants.{Private, Shared}
 use Rattle.mm_text.specs.{number_of}
 use Rattle.mm_arguments.specs.{is_dashed}
+use Rattle.mm_reports.specs.{before, behind}
+use Rattle.mm_reports.specs.declared.styles.Style.TheVariants as style
 use Rattle.mm_show.specs.declared.forms.Form.{Form}
 use Rattle.mm_show.specs.declared.forms.Form.TheVariants as form
 use Rattle.mm_show.specs.declared.forms.Files.{Files}
@@ -34,14 +36,6 @@ pid_among n = if nat_lt n 256 then Some n else None
 
 abbrev pub pid_of : Text → Option ℕ
 pid_of word = option_and_then pid_among (number_of word)
-
--- what stands before the first of such bytes, and behind it
-abbrev pub before : ℕ → Text → Text
-before byte [] = []
-before byte (c ∷ cs) = if c == byte then [] else c ∷ before byte cs
-
-abbrev pub behind : ℕ → Text → Text
-behind byte word = drop (length (before byte word) + 1) word
 
 abbrev pub private_key : Option ℕ → Option ℕ → Option Key
 private_key None page = None
@@ -87,10 +81,23 @@ alone f count = if count == 0 then Some f else None
 abbrev pub with_one : {A : Type 0} → (A → Form) → Option A → ℕ → Option Form
 with_one make read count = if count == 1 then option_map make read else None
 
--- `counts` with no value or one
-abbrev pub counts_with : Option ℕ → ℕ → Option Form
-counts_with line count =
-    if count == 0 then Some form.Counts else with_one form.CountsAt line count
+-- the value is the word `csv`
+abbrev pub is_csv : Text → Bool
+is_csv value = bytes_eq value (codes "csv")
+
+-- `counts` with no value, with a line, or with `csv` and files behind it
+abbrev pub counts_with : Text → ℕ → Option Form
+counts_with first count =
+    if count == 0 then Some form.Counts
+    else if is_csv first then option_map form.CountsCsv (files_beside (count - 1))
+    else with_one form.CountsAt (line_asked_for first) count
+
+-- `faults` with no value, or with `csv`
+abbrev pub faults_with : Text → ℕ → Option Form
+faults_with first count =
+    if count == 0 then Some (form.Faults style.Columns)
+    else if is_csv first then with_one form.Faults (Some style.Csv) count
+    else None
 
 -- the form of this name with these values
 abbrev pub form_in : Text → List Text → Option Form
@@ -100,11 +107,11 @@ form_in name values =
     if bytes_eq name (codes "html") then option_map form.Html (page_files count)
     else if bytes_eq name (codes "tell") then option_map form.Tell (files_beside count)
     else if bytes_eq name (codes "events") then option_map form.Events (files_beside count)
-    else if bytes_eq name (codes "counts") then counts_with (line_asked_for first) count
+    else if bytes_eq name (codes "counts") then counts_with first count
     else if bytes_eq name (codes "state") then with_one form.StateAt (line_asked_for first) count
     else if bytes_eq name (codes "frame") then with_one form.FrameAt (number_of first) count
     else if bytes_eq name (codes "key") then with_one form.KeyAt (key_of first) count
-    else if bytes_eq name (codes "faults") then alone form.Faults count
+    else if bytes_eq name (codes "faults") then faults_with first count
     else if bytes_eq name (codes "sums") then alone form.Sums count
     else None
 
@@ -122,7 +129,13 @@ abbrev pub files_of : Form → Files
 files_of (form.Html named) = named
 files_of (form.Tell named) = named
 files_of (form.Events named) = named
+files_of (form.CountsCsv named) = named
 files_of _ = files.None
+
+-- the place of the first of them among the words: behind the name of the form, and behind `csv`
+abbrev pub files_at : Form → ℕ
+files_at (form.CountsCsv named) = 2
+files_at _ = 1
 
 -- the first and the second of the files are named
 abbrev pub has_script : Files → Bool

@@ -4,7 +4,7 @@ use Rattle.std.specs.Prelude.{◌≡◌, ◌⊎◌, ℕ, Bool, true, false, List
 use Rattle.std.specs.Prelude.{Result, Ok, Err, codes}
 use Rattle.mm_types.specs.{Text}
 use Rattle.mm_move_rules.specs.{numbered}
-use Rattle.mm_log_check.specs.{IsFaultStatus, IsRefusedLog, Shows}
+use Rattle.mm_log_check.specs.{IsRefusedLog, Shows}
 use Rattle.mm_observations.specs.{packed, run_lines}
 
 -- the packed text, or the number of the first row that is not good
@@ -28,9 +28,7 @@ abbrev pub IsRefusedRow : ℕ → Option Text → Option Text → ℕ → Type 0
 IsRefusedRow n took took' result =
     Shows took took' (bad_row_text n) 6 result ⊎ IsRefusedLog took took' result
 
--- what is said with the packed text; or of a row that is not good, unless memory was refused or a
--- file or the sink failed
+-- what is said with the packed text, or of a row that is not good
 abbrev pub IfGood : Result Text ℕ → Option Text → Option Text → ℕ → (Text → Type 0) → Type 0
 IfGood (Ok text) took took' result says = says text
-IfGood (Err n) took took' result says =
-    Shows took took' (bad_row_text n) 6 result ⊎ IsFaultStatus result
+IfGood (Err n) took took' result says = Shows took took' (bad_row_text n) 6 result

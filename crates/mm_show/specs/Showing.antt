@@ -5,10 +5,11 @@ use Rattle.std.specs.Prelude.{None, codes}
 use Rattle.mm_types.specs.{Text, Rose, Move}
 use Rattle.mm_move_classes.specs.{log_data}
 use Rattle.mm_log_check.specs.{Shows, IsRefusedLog}
-use Rattle.mm_log_walk.specs.{lines_of, total_of, shown_file, shown_line, answer_file, Said, Why, no_why}
+use Rattle.mm_log_walk.specs.{lines_of, total_of, shown_file, shown_line, answer_file, Said, Sought, Why, no_why}
+use Rattle.mm_log_walk.specs.declared.seeking.Sought.TheVariants as sought
 use Rattle.mm_sentences.specs.{why_text}
-use Rattle.mm_reports.specs.{counts_rows, fault_rows, frame_history, key_history, state_rows}
-use Rattle.mm_reports.specs.{use_rows}
+use Rattle.mm_reports.specs.{counts_rows, fault_rows, frame_history, key_history, state_rows, use_rows}
+use Rattle.mm_reports.specs.declared.styles.Style.TheVariants as style
 use Rattle.mm_transcripts.specs.{transcript}
 use Rattle.mm_events.specs.{events}
 use Rattle.mm_show.specs.Words.{class_rows}
@@ -63,13 +64,21 @@ abbrev pub form_said : Form → PageOf → Option (List Text) → Option (List T
 form_said (form.Html named) p script answers = page_said p script answers
 form_said (form.Tell named) p script answers = transcript script answers
 form_said (form.Events named) p script answers = events script answers
-form_said form.Counts p script answers = counts_rows
+form_said form.Counts p script answers = counts_rows style.Columns None None
+form_said (form.CountsCsv named) p script answers = counts_rows style.Csv script answers
 form_said (form.CountsAt line) p script answers = use_rows line
 form_said (form.StateAt line) p script answers = state_rows line
 form_said (form.FrameAt n) p script answers = frame_history n
 form_said (form.KeyAt key) p script answers = key_history key
-form_said form.Faults p script answers = fault_rows
+form_said (form.Faults s) p script answers = fault_rows s
 form_said form.Sums p script answers = sums_said
+
+-- what the log has to have
+abbrev pub form_sought : Form → Sought
+form_sought (form.CountsAt line) = sought.Line line
+form_sought (form.StateAt line) = sought.Line line
+form_sought (form.FrameAt n) = sought.Frame n
+form_sought _ = sought.Nothing
 
 -- behind the number of a bad line: a page says nothing
 abbrev pub form_why : Form → Why
@@ -100,5 +109,5 @@ IsUnread name took took' result =
 abbrev pub usage_text : Text
 usage_text =
     codes "usage: mmshow html [SCRIPT [ANSWERS [OBSERVATIONS]]] | tell [SCRIPT [ANSWERS]] "
-    ++ (codes "| events [SCRIPT [ANSWERS]] | counts [LINE] | state LINE | frame N | key KEY | faults "
-    ++ (codes "| sums" ++ 10 ∷ []))
+    ++ (codes "| events [SCRIPT [ANSWERS]] | counts [LINE] | counts csv [SCRIPT [ANSWERS]] | state LINE "
+    ++ (codes "| frame N | key KEY | faults [csv] | sums" ++ 10 ∷ []))

@@ -3,11 +3,12 @@ ghost use Rattle.mm_text.specs.{number_of};
 ghost use Rattle.mm_arguments.specs.{texts};
 ghost use Rattle.mm_show.specs.declared.forms.Form.TheVariants as form;
 ghost use Rattle.mm_show.specs.Forms.{word_at, files_beside, page_files, alone, form_in, form_of};
-ghost use Rattle.mm_show.specs.Forms.{with_one, counts_with, line_asked_for};
+ghost use Rattle.mm_show.specs.Forms.{is_csv, with_one, counts_with, faults_with, line_asked_for};
 ghost use Rattle.mm_show.specs.Forms.{key_of};
 
 use crate::keys::{key, line};
 use mm_arguments::read_words;
+use mm_reports::Style;
 use mm_script::is_text;
 use mm_text::number;
 use mm_types::{Key, NoMemory};
@@ -24,6 +25,9 @@ pub enum Form {
     Events(Files),
     /// A row of counts after each line.
     Counts,
+    /// The same by the rule of csv, with the working sets and the charge, and so many files beside
+    /// the log.
+    CountsCsv(Files),
     /// What the page frames are used for after a line, 1 to 1,000,000.
     CountsAt(u32),
     /// All that stands after a line, 1 to 1,000,000.
@@ -33,7 +37,7 @@ pub enum Form {
     /// What became of a page.
     KeyAt(Key),
     /// The faults by process and page.
-    Faults,
+    Faults(Style),
     /// How many moves are of each class, and how many lines of each kind.
     Sums,
 }
@@ -129,11 +133,29 @@ fn alone(form: Form, count: usize) -> Option<Form>
     if count == 0 { Some(form) } else { None }
 }
 
+fn is_csv(value: &[u8]) -> bool
+    ensures { result ≡ is_csv value.now }
+{
+    is_text(value, b"csv")
+}
+
+fn counts_csv_form(count: usize) -> Option<Form>
+    ensures { result ≡ option_map form.CountsCsv (files_beside count) }
+{
+    match files_beside(count) {
+        Some(files) => Some(Form::CountsCsv(files)),
+        None => None,
+    }
+}
+
 fn counts_form(first: &[u8], count: usize) -> Option<Form>
-    ensures { result ≡ counts_with (line_asked_for first.now) count }
+    ensures { result ≡ counts_with first.now count }
 {
     if count == 0 {
         return Some(Form::Counts);
+    }
+    if is_csv(first) {
+        return counts_csv_form(count - 1);
     }
     if count != 1 {
         return None;
@@ -141,6 +163,18 @@ fn counts_form(first: &[u8], count: usize) -> Option<Form>
     match line(first) {
         Some(line) => Some(Form::CountsAt(line)),
         None => None,
+    }
+}
+
+fn faults_form(first: &[u8], count: usize) -> Option<Form>
+    ensures { result ≡ faults_with first.now count }
+{
+    if count == 0 {
+        Some(Form::Faults(Style::Columns))
+    } else if count == 1 && is_csv(first) {
+        Some(Form::Faults(Style::Csv))
+    } else {
+        None
     }
 }
 
@@ -202,7 +236,7 @@ fn form_in(name: &[u8], values: &[&str]) -> Option<Form>
     } else if is_text(name, b"key") {
         key_form(first, count)
     } else if is_text(name, b"faults") {
-        alone(Form::Faults, count)
+        faults_form(first, count)
     } else if is_text(name, b"sums") {
         alone(Form::Sums, count)
     } else {
@@ -227,11 +261,11 @@ pub(crate) fn asked(alloc: Global, words: &[String]) -> Result<Option<Form>, NoM
         words_form("html", 0, 3),
         words_form("tell", 0, 2),
         words_form("events", 0, 2),
-        words_form("counts", 0, 1),
+        words_form("counts", 0, 3),
         words_form("state", 1, 1),
         words_form("frame", 1, 1),
         words_form("key", 1, 1),
-        words_form("faults", 0, 0),
+        words_form("faults", 0, 1),
         words_form("sums", 0, 0),
     ];
     let said = match read_words(alloc, &forms, words)? {

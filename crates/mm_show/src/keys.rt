@@ -1,6 +1,7 @@
 ghost use Rattle.std.specs.Prelude.{◌≡◌, ◌/◌, option_map};
-ghost use Rattle.mm_show.specs.{line_asked_for, pid_of, before, behind, private_key, shared_key, page_at, key_of};
+ghost use Rattle.mm_show.specs.{line_asked_for, pid_of, private_key, shared_key, page_at, key_of};
 
+use mm_reports::{before, behind};
 use mm_text::number;
 use mm_types::{Area, Key, Pid, Vpn};
 
@@ -27,31 +28,6 @@ fn pid(word: &[u8]) -> Option<Pid>
     match number(word) {
         Some(n) => { if n < 256 { Some(Pid(n as u8)) } else { None } }
         None => None,
-    }
-}
-
-/// The bytes before the first such byte; all where there is none.
-fn before(byte: u8, word: &[u8]) -> &[u8]
-    ensures { result.now ≡ before byte word.now }
-{
-    for i in 0..word.len() {
-        if word[i] == byte {
-            return &word[..i];
-        }
-    }
-    word
-}
-
-/// The bytes behind the first such byte; none where there is none.
-#[tactic(auto, using(crate::proofs::Behind::rest_behind))]
-fn behind(byte: u8, word: &[u8]) -> &[u8]
-    ensures { result.now ≡ behind byte word.now }
-{
-    let front = before(byte, word).len();
-    if front < word.len() {
-        &word[front + 1..]
-    } else {
-        &[]
     }
 }
 

@@ -1,11 +1,11 @@
-ghost use Rattle.std.specs.Prelude.{◌≡◌, ◌≢◌, ◌≤◌, ◌⊎◌, ◌++◌, ◌∷◌, [], ℕ, List, Option, OnOk, true};
+ghost use Rattle.std.specs.Prelude.{◌≡◌, ◌≢◌, ◌≤◌, ◌⊎◌, ◌+◌, ◌++◌, ◌∷◌, [], ℕ, List, Option, OnOk, true};
 ghost use Rattle.std.specs.Prelude.{Some, map, option_map, string_bytes, None};
 ghost use Rattle.mm_types.specs.{Rose};
 ghost use Rattle.mm_log_check.specs.{IsFaultStatus, Shows, IsRefusedLog};
 ghost use Rattle.mm_log_walk.specs.{Answers, SaysExactly, total_of};
-ghost use Rattle.mm_show.specs.{Form, form_of, word_at, files_of, has_script, has_answers, has_observations, form_said, form_why, FileIs, FileFailed, unread_text};
+ghost use Rattle.mm_show.specs.{Form, form_of, word_at, files_of, has_script, has_answers, has_observations, form_said, form_sought, form_why, FileIs, FileFailed};
+ghost use Rattle.mm_show.specs.{unread_text, files_at, IsUnread, usage_text, whole_page};
 ghost use Rattle.mm_show.specs.{bad_row_text, FileHas, IfGood, IsRefusedRow, observed, page_of};
-ghost use Rattle.mm_show.specs.{IsUnread, usage_text, whole_page};
 
 use crate::forms::{Files, Form, asked, word_at};
 use crate::observed::observed;
@@ -14,9 +14,9 @@ use crate::sums::SumTeller;
 use mm_events::EventTeller;
 use mm_io::{Sink, Source};
 use mm_log_check::write_text;
-use mm_log_walk::{FileFault, Lines, answered, named_bytes, named_lines};
+use mm_log_walk::{FileFault, Lines, Sought, answered, named_bytes, named_lines};
 use mm_observations::PackFault;
-use mm_reports::{CountsTeller, FaultTeller, HistoryTeller, StateTeller, UseTeller};
+use mm_reports::{CountsTeller, FaultTeller, HistoryTeller, StateTeller, Style, UseTeller};
 use mm_text::{LineBuf, put_decimal};
 use mm_transcripts::TranscriptTeller;
 use mm_types::NoMemory;
@@ -36,8 +36,8 @@ fn put_named(words: &[u8], name: &[u8], text: &mut Vec<u8>) -> Result<(), NoMemo
 
 /// What is written where the words are no form.
 const USAGE: &[u8] = b"usage: mmshow html [SCRIPT [ANSWERS [OBSERVATIONS]]] | tell [SCRIPT [ANSWERS]] \
-    | events [SCRIPT [ANSWERS]] | counts [LINE] | state LINE | frame N | key KEY | faults \
-    | sums\n";
+    | events [SCRIPT [ANSWERS]] | counts [LINE] | counts csv [SCRIPT [ANSWERS]] | state LINE \
+    | frame N | key KEY | faults [csv] | sums\n";
 
 /// The status where memory was refused.
 const NO_MEMORY: u8 = 1;
@@ -93,6 +93,18 @@ fn refused<O: Sink>(alloc: Global, row: u64, out: &mut O) -> u8
     }
 }
 
+/// What a log has to have for a form.
+fn form_sought(form: Form) -> Sought
+    ensures { result ≡ form_sought form }
+{
+    match form {
+        Form::CountsAt(line) => Sought::Line(line),
+        Form::StateAt(line) => Sought::Line(line),
+        Form::FrameAt(frame) => Sought::Frame(frame),
+        _ => Sought::Nothing,
+    }
+}
+
 /// Shows a log, where the files beside it were read.
 fn shown<S: Source, O: Sink>(
     alloc: Global,
@@ -105,8 +117,8 @@ fn shown<S: Source, O: Sink>(
     out: &mut O,
 ) -> u8
     ensures answers { Answers (S.left log.old) (S.left log.new) (O.taken out.old) (O.taken out.new)
-        script.now (form_said form (page_of page.now named.now) script.now answers.now)
-        (form_why form) result }
+        script.now (form_sought form)
+        (form_said form (page_of page.now named.now) script.now answers.now) (form_why form) result }
     ensures later { (S.faults log.old ≤ S.faults log.new) × (O.faults out.old ≤ O.faults out.new) }
     ensures read_fault { result ≡ 4 → Rose (S.faults log.old) (S.faults log.new) }
     ensures out_fault { result ≡ 5 → Rose (O.faults out.old) (O.faults out.new) }
@@ -114,46 +126,52 @@ fn shown<S: Source, O: Sink>(
     ensures out_same { result ≢ 5 → O.faults out.new ≡ O.faults out.old }
     ensures gave { result ≢ 1 → result ≢ 5 → O.given out.new ≡ O.taken out.new }
 {
+    let sought = form_sought(form);
     match form {
         Form::Html(_) => match page_teller(alloc, page, named, script, answers) {
-            Ok(mut teller) => answered(alloc, script, log, &mut teller, out),
+            Ok(mut teller) => answered(alloc, script, sought, log, &mut teller, out),
             Err(NoMemory) => NO_MEMORY,
         },
         Form::Tell(_) => {
             let mut teller = TranscriptTeller::new(alloc, script, answers);
-            answered(alloc, script, log, &mut teller, out)
+            answered(alloc, script, sought, log, &mut teller, out)
         }
         Form::Events(_) => {
             let mut teller = EventTeller::new(alloc, script, answers);
-            answered(alloc, script, log, &mut teller, out)
+            answered(alloc, script, sought, log, &mut teller, out)
         }
-        Form::Counts => answered(alloc, script, log, &mut CountsTeller::new(), out),
+        Form::Counts => {
+            let mut teller = CountsTeller::new(alloc, Style::Columns, &None, &None);
+            answered(alloc, script, sought, log, &mut teller, out)
+        }
+        Form::CountsCsv(_) => {
+            let mut teller = CountsTeller::new(alloc, Style::Csv, script, answers);
+            answered(alloc, script, sought, log, &mut teller, out)
+        }
         Form::CountsAt(line) => {
-            answered(alloc, script, log, &mut UseTeller::new(alloc, line), out)
+            let mut teller = UseTeller::new(alloc, line);
+            answered(alloc, script, sought, log, &mut teller, out)
         }
         Form::StateAt(line) => {
-            answered(alloc, script, log, &mut StateTeller::new(alloc, line), out)
+            let mut teller = StateTeller::new(alloc, line);
+            answered(alloc, script, sought, log, &mut teller, out)
         }
         Form::FrameAt(frame) => {
-            answered(
-                alloc,
-                script,
-                log,
-                &mut HistoryTeller::of_frame(alloc, frame),
-                out,
-            )
+            let mut teller = HistoryTeller::of_frame(alloc, frame);
+            answered(alloc, script, sought, log, &mut teller, out)
         }
         Form::KeyAt(key) => {
-            answered(
-                alloc,
-                script,
-                log,
-                &mut HistoryTeller::of_key(alloc, key),
-                out,
-            )
+            let mut teller = HistoryTeller::of_key(alloc, key);
+            answered(alloc, script, sought, log, &mut teller, out)
         }
-        Form::Faults => answered(alloc, script, log, &mut FaultTeller::new(alloc), out),
-        Form::Sums => answered(alloc, script, log, &mut SumTeller::new(alloc), out),
+        Form::Faults(style) => {
+            let mut teller = FaultTeller::new(alloc, style);
+            answered(alloc, script, sought, log, &mut teller, out)
+        }
+        Form::Sums => {
+            let mut teller = SumTeller::new(alloc);
+            answered(alloc, script, sought, log, &mut teller, out)
+        }
     }
 }
 
@@ -164,7 +182,18 @@ fn files_of(form: Form) -> Files
         Form::Html(files) => files,
         Form::Tell(files) => files,
         Form::Events(files) => files,
+        Form::CountsCsv(files) => files,
         _ => Files::None,
+    }
+}
+
+/// The place of the first of a form's files among its words.
+fn files_at(form: Form) -> usize
+    ensures { result ≡ files_at form }
+{
+    match form {
+        Form::CountsCsv(_) => 2,
+        _ => 1,
     }
 }
 
@@ -217,15 +246,16 @@ fn show_form<S: Source, F: Source, O: Sink>(
         → FileHas (has_observations (files_of form)) (option_map F.left observations.old) o
         → IfGood (observed s a o) (O.taken out.old) (O.taken out.new) result (λ packed.
         Answers (S.left log.old) (S.left log.new) (O.taken out.old) (O.taken out.new) s
+        (form_sought form)
         (form_said form (whole_page page.now (word_at (map string_bytes words.now) 1) packed) s a)
-        (form_why form) result) }
+        (form_why form) result) ⊎ IsFaultStatus result }
     ensures no_script { has_script (files_of form) ≡ true → script.old ≡ None
-        → IsUnread (word_at (map string_bytes words.now) 1) (O.taken out.old) (O.taken out.new)
+        → IsUnread (word_at (map string_bytes words.now) (files_at form)) (O.taken out.old) (O.taken out.new)
         result }
     ensures no_answers { (s : Option (List (List ℕ)))
         → FileIs (has_script (files_of form)) (option_map F.left script.old) s
         → has_answers (files_of form) ≡ true → answers.old ≡ None
-        → IsUnread (word_at (map string_bytes words.now) 2) (O.taken out.old) (O.taken out.new)
+        → IsUnread (word_at (map string_bytes words.now) (files_at form + 1)) (O.taken out.old) (O.taken out.new)
         result ⊎ IsFaultStatus result }
     ensures no_observations { has_observations (files_of form) ≡ true → observations.old ≡ None
         → IsFaultStatus result }
@@ -243,12 +273,12 @@ fn show_form<S: Source, F: Source, O: Sink>(
     let files = files_of(form);
     let script = match named_lines(alloc, has_script(files), script) {
         Ok(lines) => lines,
-        Err(FileFault::Failed) => return unread(alloc, word_at(words, 1), out),
+        Err(FileFault::Failed) => return unread(alloc, word_at(words, files_at(form)), out),
         Err(FileFault::NoMemory) => return NO_MEMORY,
     };
     let answers = match named_lines(alloc, has_answers(files), answers) {
         Ok(lines) => lines,
-        Err(FileFault::Failed) => return unread(alloc, word_at(words, 2), out),
+        Err(FileFault::Failed) => return unread(alloc, word_at(words, files_at(form) + 1), out),
         Err(FileFault::NoMemory) => return NO_MEMORY,
     };
     let observations = match named_bytes(alloc, has_observations(files), observations) {
@@ -271,10 +301,11 @@ fn show_form<S: Source, F: Source, O: Sink>(
 /// Shows the log that the source gives, writes the text to `out` and flushes it. The words are the
 /// name of a form and its values. Where these name a script, its answers and observations, `script`,
 /// `answers` and `observations` are those files, none where a file could not be opened; other forms
-/// read none. The status is 0 where the log replays and fits the script, 1 where memory was refused,
-/// 2 where the words are no form, 3 where a line is no legal move, 4 where the log or a file failed,
-/// 5 where the sink failed, 6 where the script does not fit or a row of the observations is not
-/// good, 8 where the log has more than 1,000,000,000,000 bytes.
+/// read none. The status is 0 where the log replays, fits the script and has the line or page frame
+/// that is asked for, 1 where memory was refused, 2 where the words are no form, 3 where a line is no
+/// legal move, 4 where the log or a file failed, 5 where the sink failed, 6 where the script does not
+/// fit, a row of the observations is not good or the log has no such line or page frame, 8 where the
+/// log has more than 1,000,000,000,000 bytes.
 pub fn run_show<S: Source, F: Source, O: Sink>(
     alloc: Global,
     words: &[String],
@@ -291,18 +322,19 @@ pub fn run_show<S: Source, F: Source, O: Sink>(
         → FileIs (has_answers (files_of f)) (option_map F.left answers.old) a
         → FileHas (has_observations (files_of f)) (option_map F.left observations.old) o
         → IfGood (observed s a o) (O.taken out.old) (O.taken out.new) result (λ packed.
-        SaysExactly s
+        SaysExactly s (form_sought f)
         (form_said f (whole_page page.now (word_at (map string_bytes words.now) 1) packed) s a)
-        (form_why f) (S.left log.old) (O.taken out.old) (O.taken out.new) result) }
+        (form_why f) (S.left log.old) (O.taken out.old) (O.taken out.new) result)
+        ⊎ IsFaultStatus result }
     ensures no_script { (f : Form) → form_of (map string_bytes words.now) ≡ Some f
         → has_script (files_of f) ≡ true → script.old ≡ None
-        → IsUnread (word_at (map string_bytes words.now) 1) (O.taken out.old) (O.taken out.new)
+        → IsUnread (word_at (map string_bytes words.now) (files_at f)) (O.taken out.old) (O.taken out.new)
         result }
     ensures no_answers { (f : Form) (s : Option (List (List ℕ)))
         → form_of (map string_bytes words.now) ≡ Some f
         → FileIs (has_script (files_of f)) (option_map F.left script.old) s
         → has_answers (files_of f) ≡ true → answers.old ≡ None
-        → IsUnread (word_at (map string_bytes words.now) 2) (O.taken out.old) (O.taken out.new)
+        → IsUnread (word_at (map string_bytes words.now) (files_at f + 1)) (O.taken out.old) (O.taken out.new)
         result
         ⊎ IsFaultStatus result }
     ensures no_observations { (f : Form) → form_of (map string_bytes words.now) ≡ Some f

@@ -25,8 +25,8 @@ moves; of OBSERVATIONS, as melzudek observe writes them, a page has address spac
   mmshow tell examples/first.mm examples/first.out < first.log
 
 Statuses: 0 shown; 1 memory was refused; 2 the words are no form; 3 a line of the log is no legal
-move; 4 the log could not be read; 5 the text could not be written; 6 a file could not be read or
-does not fit; 8 the log is too long.";
+move; 4 the log or a file could not be read; 5 the text could not be written; 6 the script does
+not fit, or the log has no such line or page frame; 8 the log is too long.";
 
 /// The form that has at most three files behind it.
 fn with_observations<'a>(
@@ -56,12 +56,31 @@ fn with_value<'a>(
     name: &'a str,
     about: &'a str,
     value: &'a str,
-    required: bool,
 ) -> Result<Command<'a>, NoMemory> {
-    let value = Arg::new(alloc, value)
-        .action(ArgAction::Set)
-        .required(required);
+    let value = Arg::new(alloc, value).action(ArgAction::Set).required(true);
     let command = Command::new(alloc, name).about(about).arg(value)?;
+    Ok(command)
+}
+
+/// The counts, line by line or after one; behind the word `csv` stand two files at most.
+fn counts<'a>(alloc: Global) -> Result<Command<'a>, NoMemory> {
+    let what = Arg::new(alloc, "LINE").help("A line, or the word csv for all by the rule of csv");
+    let script = Arg::new(alloc, "SCRIPT").help("Behind csv: the file of the script");
+    let answers = Arg::new(alloc, "ANSWERS").help("Behind csv: the file of its answers");
+    let command = Command::new(alloc, "counts")
+        .about("The lists, line by line or after one")
+        .arg(what)?
+        .arg(script)?
+        .arg(answers)?;
+    Ok(command)
+}
+
+/// The faults, in columns or by the rule of csv.
+fn faults<'a>(alloc: Global) -> Result<Command<'a>, NoMemory> {
+    let style = Arg::new(alloc, "csv").help("The word csv, for a table by the rule of csv");
+    let command = Command::new(alloc, "faults")
+        .about("The faults by process and page")
+        .arg(style)?;
     Ok(command)
 }
 
@@ -70,23 +89,16 @@ fn command<'a>(alloc: Global) -> Result<Command<'a>, NoMemory> {
     let html = with_observations(alloc, "html", "One page for a browser")?;
     let tells = with_files(alloc, "tell", "Each line, and in words what moved")?;
     let events = with_files(alloc, "events", "A row of csv for each move")?;
-    let counts = with_value(
-        alloc,
-        "counts",
-        "The lists, line by line or after one",
-        "LINE",
-        false,
-    )?;
+    let counts = counts(alloc)?;
     let state = with_value(
         alloc,
         "state",
         "Every page frame and page after a line",
         "LINE",
-        true,
     )?;
-    let frame = with_value(alloc, "frame", "What became of a page frame", "N", true)?;
-    let key = with_value(alloc, "key", "What became of a page, as p1.16", "KEY", true)?;
-    let faults = Command::new(alloc, "faults").about("The faults by process and page");
+    let frame = with_value(alloc, "frame", "What became of a page frame", "N")?;
+    let key = with_value(alloc, "key", "What became of a page, as p1.16", "KEY")?;
+    let faults = faults(alloc)?;
     let sums = Command::new(alloc, "sums").about("How many moves of each class");
     let command = described(alloc, "mmshow", ABOUT, AFTER)
         .subcommand_required(true)
@@ -102,23 +114,35 @@ fn command<'a>(alloc: Global) -> Result<Command<'a>, NoMemory> {
     Ok(command)
 }
 
-/// Whether the first word is the name of a form whose values are files.
-fn has_files(words: &[String]) -> bool {
-    match words.get(0) {
-        Some(name) => {
-            let name = name.as_bytes();
-            name == b"html".as_slice() || name == b"tell".as_slice() || name == b"events".as_slice()
-        }
-        None => false,
+/// The word at a place; the empty text where there is none.
+fn word(words: &[String], place: usize) -> &[u8] {
+    match words.get(place) {
+        Some(word) => word.as_bytes(),
+        None => &[],
     }
 }
 
-/// The file that the word at a place names, if the form has files, there is such a word and the
-/// file can be opened.
-fn named(rt: &HostRuntime, words: &[String], place: usize) -> Option<StdSource<File>> {
-    if !has_files(words) {
-        return None;
+/// The place of the first word that names a file, if the words are a form that has files.
+fn files_at(words: &[String]) -> Option<usize> {
+    let name = word(words, 0);
+    if name == b"html".as_slice() || name == b"tell".as_slice() || name == b"events".as_slice() {
+        Some(1)
+    } else if name == b"counts".as_slice() && word(words, 1) == b"csv".as_slice() {
+        Some(2)
+    } else {
+        None
     }
+}
+
+/// The file that the word at a place behind others names, if there is such a word and the file can
+/// be opened.
+fn named(
+    rt: &HostRuntime,
+    words: &[String],
+    first: Option<usize>,
+    behind: usize,
+) -> Option<StdSource<File>> {
+    let place = first? + behind;
     match words.get(place) {
         Some(name) => match fs::open(rt, name.as_str()) {
             Ok(file) => Some(StdSource::new(file)),
@@ -164,9 +188,10 @@ fn show(rt: &HostRuntime) -> Result<u8, NoMemory> {
         return tell(rt, command(alloc)?, &words);
     }
     let _streams = [barred(rt), barred(rt), barred(rt)];
-    let mut script = named(rt, &words, 1);
-    let mut answers = named(rt, &words, 2);
-    let mut observations = named(rt, &words, 3);
+    let first = files_at(&words);
+    let mut script = named(rt, &words, first, 0);
+    let mut answers = named(rt, &words, first, 1);
+    let mut observations = named(rt, &words, first, 2);
     let mut log = StdSource::new(rt.reader());
     let mut out = StdSink::new(buffered(alloc, io::writer(rt))?);
     let status = run_show(

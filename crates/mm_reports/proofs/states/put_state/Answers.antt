@@ -11,7 +11,7 @@ returns c =
     let l = life c.args.life.now in
     let front = codes "after line " in
     five c.args.text.now.items c.put_numbered.new.text.items c.put_lists.new.text.items c.put_frames.new.text.items c.put_processes.new.text.items c.put_slots.new.text.items
-    (numbered front l.line (10 ∷ [])) (list_rows l) (frame_lines l.frames 0 l.machine.frames) (process_lines c.args.pages.now.keys 1 l.sets) (slots_line l)
+    (numbered front l.line (10 ∷ [])) (list_rows l) (frame_lines l.frames l.machine.frames) (process_lines c.args.pages.now.keys 1 l.sets) (slots_line l)
     (c.in_ok-put_numbered.ensures ∙ ap (λ (k : ℕ). c.args.text.now.items ++ numbered front k (10 ∷ [])) (c.from.ensures ∙ c.line.ensures))
     c.in_ok-put_lists.ensures c.in_ok-put_frames.ensures
     (c.in_ok-put_processes.ensures ∙ ap (λ (ss : List ResidentSet). c.put_frames.new.text.items ++ process_lines c.args.pages.now.keys 1 ss) c.sets.ensures)

@@ -5,5 +5,5 @@ use Rattle.mm_reports.proofs.counts.UseTellerTeller.take.Goals as goal
 
 pub returns-clause-text : goal.returns-clause-text
 returns-clause-text c =
-    said_taken c.args.self.now.line use_text c.args.self.now.found c.found_by-self.result c.args.text.now.items c.put_said_by.new.text.items (life c.args.life.now) c.args.m.now
-    c.in_ok-put_said_by.ensures c.found_by-self.ensures
+    said_taken c.args.self.now.line use_text c.args.text.now.items c.put_said_by.new.text.items (life c.args.life.now) c.args.m.now
+    c.in_ok-put_said_by.ensures

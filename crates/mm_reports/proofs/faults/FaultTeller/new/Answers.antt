@@ -5,4 +5,4 @@ use Rattle.mm_reports.proofs.{fault_none}
 use Rattle.mm_reports.proofs.faults.FaultTeller.new.Goals as goal
 
 pub returns : goal.returns
-returns c = fault_none (tally_of c.new-2.result) (marks_of c.new.result) None c.new-2.ensures c.new.ensures refl
+returns c = fault_none c.args.style (tally_of c.new-2.result) (marks_of c.new.result) None c.new-2.ensures c.new.ensures refl
