@@ -228,6 +228,55 @@ fn has_observations(files: Files) -> bool
     }
 }
 
+/// Shows a log by a form whose script and answers were read, with the observations that it names.
+fn show_beside<S: Source, F: Source, O: Sink>(
+    alloc: Global,
+    form: Form,
+    words: &[String],
+    log: &mut S,
+    script: &Option<Lines>,
+    answers: &Option<Lines>,
+    observations: &mut Option<F>,
+    page: &PageTexts<'_>,
+    out: &mut O,
+) -> u8
+    ensures exact { (o : Option (List ℕ))
+        → FileHas (has_observations (files_of form)) (option_map F.left observations.old) o
+        → IfGood (observed script.now answers.now o) (O.taken out.old) (O.taken out.new) result
+        (λ packed. Answers (S.left log.old) (S.left log.new) (O.taken out.old) (O.taken out.new)
+        script.now (form_sought form)
+        (form_said form (whole_page page.now (word_at (map string_bytes words.now) 1) packed)
+        script.now answers.now) (form_why form) result) ⊎ IsFaultStatus result }
+    ensures no_observations { has_observations (files_of form) ≡ true → observations.old ≡ None
+        → IsUnread (word_at (map string_bytes words.now) 3) (O.taken out.old) (O.taken out.new)
+        result }
+    ensures later { (S.faults log.old ≤ S.faults log.new) × (O.faults out.old ≤ O.faults out.new) }
+    ensures read_fault { result ≡ 4 → Rose (S.faults log.old) (S.faults log.new)
+        ⊎ FileFailed F.faults (has_observations (files_of form)) observations.old
+        observations.new }
+    ensures out_fault { result ≡ 5 → Rose (O.faults out.old) (O.faults out.new) }
+    ensures source_same { (IsFaultStatus result → ⊥) → S.faults log.new ≡ S.faults log.old }
+    ensures out_same { result ≢ 5 → O.faults out.new ≡ O.faults out.old }
+    ensures gave { result ≢ 1 → result ≢ 5 → O.given out.new ≡ O.taken out.new }
+{
+    let is_named = has_observations(files_of(form));
+    let bytes = match named_bytes(alloc, is_named, observations) {
+        Ok(bytes) => bytes,
+        Err(FileFault::Failed) => return unread(alloc, word_at(words, 3), out),
+        Err(FileFault::NoMemory) => return NO_MEMORY,
+    };
+    let packed = match observed(alloc, script, answers, &bytes) {
+        Ok(packed) => packed,
+        Err(PackFault::Row(row)) => return refused(alloc, row, out),
+        Err(PackFault::NoMemory) => return NO_MEMORY,
+    };
+    let named = Named {
+        name: word_at(words, 1),
+        observations: packed.as_slice(),
+    };
+    shown(alloc, form, script, answers, page, &named, log, out)
+}
+
 /// Shows a log by a form, with the files that it names.
 fn show_form<S: Source, F: Source, O: Sink>(
     alloc: Global,
@@ -258,7 +307,8 @@ fn show_form<S: Source, F: Source, O: Sink>(
         → IsUnread (word_at (map string_bytes words.now) (files_at form + 1)) (O.taken out.old) (O.taken out.new)
         result ⊎ IsFaultStatus result }
     ensures no_observations { has_observations (files_of form) ≡ true → observations.old ≡ None
-        → IsFaultStatus result }
+        → IsUnread (word_at (map string_bytes words.now) 3) (O.taken out.old) (O.taken out.new)
+        result ⊎ IsFaultStatus result }
     ensures later { (S.faults log.old ≤ S.faults log.new) × (O.faults out.old ≤ O.faults out.new) }
     ensures read_fault { result ≡ 4 → Rose (S.faults log.old) (S.faults log.new)
         ⊎ (FileFailed F.faults (has_script (files_of form)) script.old script.new
@@ -281,21 +331,17 @@ fn show_form<S: Source, F: Source, O: Sink>(
         Err(FileFault::Failed) => return unread(alloc, word_at(words, files_at(form) + 1), out),
         Err(FileFault::NoMemory) => return NO_MEMORY,
     };
-    let observations = match named_bytes(alloc, has_observations(files), observations) {
-        Ok(bytes) => bytes,
-        Err(FileFault::Failed) => return unread(alloc, word_at(words, 3), out),
-        Err(FileFault::NoMemory) => return NO_MEMORY,
-    };
-    let packed = match observed(alloc, &script, &answers, &observations) {
-        Ok(packed) => packed,
-        Err(PackFault::Row(row)) => return refused(alloc, row, out),
-        Err(PackFault::NoMemory) => return NO_MEMORY,
-    };
-    let named = Named {
-        name: word_at(words, 1),
-        observations: packed.as_slice(),
-    };
-    shown(alloc, form, &script, &answers, page, &named, log, out)
+    show_beside(
+        alloc,
+        form,
+        words,
+        log,
+        &script,
+        &answers,
+        observations,
+        page,
+        out,
+    )
 }
 
 /// Shows the log that the source gives, writes the text to `out` and flushes it. The words are the
@@ -339,7 +385,8 @@ pub fn run_show<S: Source, F: Source, O: Sink>(
         ⊎ IsFaultStatus result }
     ensures no_observations { (f : Form) → form_of (map string_bytes words.now) ≡ Some f
         → has_observations (files_of f) ≡ true → observations.old ≡ None
-        → IsFaultStatus result }
+        → IsUnread (word_at (map string_bytes words.now) 3) (O.taken out.old) (O.taken out.new)
+        result ⊎ IsFaultStatus result }
     ensures usage { form_of (map string_bytes words.now) ≡ None
         → Shows (O.taken out.old) (O.taken out.new) usage_text 2 result
         ⊎ IsRefusedLog (O.taken out.old) (O.taken out.new) result }
