@@ -3,7 +3,7 @@ ghost use Rattle.mm_types.specs.{Rose, decimal};
 ghost use Rattle.mm_move_rules.specs.{unstarted, numbered};
 ghost use Rattle.mm_replay.specs.Standing.{life as life_of};
 ghost use Rattle.mm_log_check.specs.{IsFaultStatus};
-ghost use Rattle.mm_log_walk.specs.{is_broken, ends_well, closing_status, close_words, refused_words, said_by, Answers};
+ghost use Rattle.mm_log_walk.specs.{is_broken, ends_well, closing_status, close_words, refused_words, said_by, Answers, beside};
 
 use crate::closings::Closing;
 use crate::lines::Lines;
@@ -32,6 +32,8 @@ fn status_of(closing: Closing) -> u8
         Closing::Ended(Ending::ReadFault) => 4,
         Closing::Ended(Ending::NoMemory) => 1,
         Closing::Misfit(_) => 6,
+        Closing::Answer(_) => 6,
+        Closing::Surplus(_) => 6,
         Closing::OutFault => 5,
     }
 }
@@ -117,7 +119,7 @@ fn put_bad_line<T: Teller>(
     Ok(())
 }
 
-/// Writes where the log or the script is bad.
+/// Writes where the log, the script or an answer is bad.
 fn put_close<T: Teller>(
     closing: Closing,
     life: &Life,
@@ -132,6 +134,8 @@ fn put_close<T: Teller>(
             put_bad_line(line, refused, life, teller, text)
         }
         Closing::Misfit(line) => put_numbered(b"script line ", u64::from(line), text),
+        Closing::Answer(line) => put_numbered(b"answer line ", line, text),
+        Closing::Surplus(line) => put_numbered(b"answer line ", line, text),
         Closing::Ended(Ending::TooLong) => {
             text.extend_from_slice(b"too long\n")?;
             Ok(())
@@ -160,6 +164,7 @@ fn told_on<S: Source, T: Teller, O: Sink>(
     life: &mut Life,
     alloc: Global,
     script: &Option<Lines>,
+    answers: &Option<Lines>,
     log: &mut S,
     teller: &mut T,
     out: &mut O,
@@ -167,7 +172,7 @@ fn told_on<S: Source, T: Teller, O: Sink>(
     requires life { life_of life.old ≡ unstarted }
     requires counted { T.counted teller.old ≡ 0 }
     ensures answers { Answers (S.left log.old) (S.left log.new) (O.taken out.old) (O.taken out.new)
-        script.now (said_by (T.rest teller.old)) T.why result }
+        (beside script.now answers.now) (said_by (T.rest teller.old)) T.why result }
     ensures later { (S.faults log.old ≤ S.faults log.new) × (O.faults out.old ≤ O.faults out.new) }
     ensures read_fault { result ≡ 4 → Rose (S.faults log.old) (S.faults log.new) }
     ensures out_fault { result ≡ 5 → Rose (O.faults out.old) (O.faults out.new) }
@@ -176,7 +181,7 @@ fn told_on<S: Source, T: Teller, O: Sink>(
     ensures gave { result ≢ 1 → result ≢ 5 → O.given out.new ≡ O.taken out.new }
 {
     let mut text = Vec::new(alloc);
-    let closing = tell_log(life, script, log, teller, &mut text, out);
+    let closing = tell_log(life, script, answers, log, teller, &mut text, out);
     if is_broken(closing) {
         return status_of(closing);
     }
@@ -191,20 +196,21 @@ fn told_on<S: Source, T: Teller, O: Sink>(
 }
 
 /// Tells a log: writes its text to `out`, in pieces of some 32 KiB while the log is read, and
-/// flushes it. The status is 0 where the log replays and fits the script, 1 where memory was
-/// refused, 3 where a line is no legal move, 4 where a read failed, 5 where a write failed, 6 where
-/// the script does not fit, 8 where the log is too long. With 1 and 5 a front of the text may have
-/// been written.
+/// flushes it. The status is 0 where the log replays and fits the script and its answers, 1 where
+/// memory was refused, 3 where a line is no legal move, 4 where a read failed, 5 where a write
+/// failed, 6 where the script or the answers do not fit, 8 where the log is too long. With 1 and 5 a
+/// front of the text was written.
 pub fn answered<S: Source, T: Teller, O: Sink>(
     alloc: Global,
     script: &Option<Lines>,
+    answers: &Option<Lines>,
     log: &mut S,
     teller: &mut T,
     out: &mut O,
 ) -> u8
     requires { T.counted teller.old ≡ 0 }
     ensures answers { Answers (S.left log.old) (S.left log.new) (O.taken out.old) (O.taken out.new)
-        script.now (said_by (T.rest teller.old)) T.why result }
+        (beside script.now answers.now) (said_by (T.rest teller.old)) T.why result }
     ensures later { (S.faults log.old ≤ S.faults log.new) × (O.faults out.old ≤ O.faults out.new) }
     ensures read_fault { result ≡ 4 → Rose (S.faults log.old) (S.faults log.new) }
     ensures out_fault { result ≡ 5 → Rose (O.faults out.old) (O.faults out.new) }
@@ -213,5 +219,5 @@ pub fn answered<S: Source, T: Teller, O: Sink>(
     ensures gave { result ≢ 1 → result ≢ 5 → O.given out.new ≡ O.taken out.new }
 {
     let mut life = Life::new(alloc);
-    told_on(&mut life, alloc, script, log, teller, out)
+    told_on(&mut life, alloc, script, answers, log, teller, out)
 }

@@ -2,7 +2,7 @@
 use Rattle.std.proofs.Common.{◌≡◌, ℕ, Bool, true, false, List, Option, Some, None, refl, sym, ap, ◌∙◌, subst}
 use Rattle.std.specs.Prelude.{Result, Ok}
 use Rattle.mm_types.specs.{Text, Move}
-use Rattle.mm_log_walk.specs.{Said, said_by, Answers, RestOf, HasLines, FileFault}
+use Rattle.mm_log_walk.specs.{Said, said_by, Answers, RestOf, beside, HasLines, FileFault}
 use Rattle.mm_move_rules.specs.{unstarted}
 use Rattle.mm_show.specs.{PageOf, form_said, form_why, sums_said, FileIs, sums_text, sum_rest, SumTeller, Form, page_rest, PageTeller, page_said}
 use Rattle.mm_show.specs.{whole_page_text}
@@ -45,7 +45,8 @@ said_page t p script answers e = λ i. λ whole. λ moves. by whole moves i
 
 -- told by the form that was asked for
 pub told_as : (f g : Form) (p : PageOf) (script answers : Option (List Text)) (left left' took took' : Option Text) (said : Said) (status : ℕ) → f ≡ g → said ≡ form_said g p script answers
-    → Answers left left' took took' script said (form_why g) status → Answers left left' took took' script (form_said f p script answers) (form_why f) status
+    → Answers left left' took took' (beside script answers) said (form_why g) status
+    → Answers left left' took took' (beside script answers) (form_said f p script answers) (form_why f) status
 told_as f g p script answers left left' took took' said status e same h =
-    subst (λ (x : Form). Answers left left' took took' script (form_said x p script answers) (form_why x) status) (sym e)
-    (subst (λ (y : Said). Answers left left' took took' script y (form_why g) status) same h)
+    subst (λ (x : Form). Answers left left' took took' (beside script answers) (form_said x p script answers) (form_why x) status) (sym e)
+    (subst (λ (y : Said). Answers left left' took took' (beside script answers) y (form_why g) status) same h)

@@ -11,6 +11,7 @@ use Rattle.mm_reports.specs.{counts_rows, fault_rows, frame_history, key_history
 use Rattle.mm_reports.specs.{use_rows}
 use Rattle.mm_transcripts.specs.{transcript}
 use Rattle.mm_events.specs.{events}
+use Rattle.mm_show.specs.Forms.{word_at}
 use Rattle.mm_show.specs.Words.{class_rows}
 use Rattle.mm_show.specs.Sums.{sums_text}
 use Rattle.mm_show.specs.declared.forms.Form.{Form}
@@ -83,6 +84,11 @@ unread_text name = codes "cannot read " ++ (name ++ 10 ∷ [])
 abbrev pub IsUnread : Text → Option Text → Option Text → ℕ → Type 0
 IsUnread name took took' result =
     Shows took took' (unread_text name) 4 result ⊎ IsRefusedLog took took' result
+
+-- the first or the second of the files that the words name was not read
+abbrev pub LacksFile : List Text → Option Text → Option Text → ℕ → Type 0
+LacksFile words took took' result =
+    IsUnread (word_at words 1) took took' result ⊎ IsUnread (word_at words 2) took took' result
 
 abbrev pub usage_text : Text
 usage_text =

@@ -2,9 +2,9 @@ ghost use Rattle.std.specs.Prelude.{◌≡◌, ◌≢◌, ◌≤◌, ◌⊎◌, 
 ghost use Rattle.std.specs.Prelude.{Some, map, option_map, string_bytes, None};
 ghost use Rattle.mm_types.specs.{Rose};
 ghost use Rattle.mm_log_check.specs.{IsFaultStatus, Shows, IsRefusedLog};
-ghost use Rattle.mm_log_walk.specs.{Answers, SaysExactly, total_of};
+ghost use Rattle.mm_log_walk.specs.{Answers, SaysExactly, beside, total_of};
 ghost use Rattle.mm_show.specs.{Form, form_of, word_at, files_of, has_script, has_answers, form_said, form_why, FileIs, FileFailed, unread_text};
-ghost use Rattle.mm_show.specs.{IsUnread, usage_text, whole_page};
+ghost use Rattle.mm_show.specs.{IsUnread, LacksFile, usage_text, whole_page};
 
 use crate::forms::{Files, Form, asked, word_at};
 use crate::pages::{PageTexts, page_teller};
@@ -51,7 +51,6 @@ fn unread<O: Sink>(alloc: Global, name: &[u8], out: &mut O) -> u8
     ensures out_fault { result ≡ 5 → Rose (O.faults out.old) (O.faults out.new) }
     ensures out_same { result ≢ 5 → O.faults out.new ≡ O.faults out.old }
     ensures gave { result ≢ 1 → result ≢ 5 → O.given out.new ≡ O.taken out.new }
-    ensures fault { IsFaultStatus result }
 {
     let mut text = Vec::new(alloc);
     match put_unread(name, &mut text) {
@@ -71,8 +70,8 @@ fn shown<S: Source, O: Sink>(
     out: &mut O,
 ) -> u8
     ensures answers { Answers (S.left log.old) (S.left log.new) (O.taken out.old) (O.taken out.new)
-        script.now (form_said form (whole_page page.now) script.now answers.now) (form_why form)
-        result }
+        (beside script.now answers.now)
+        (form_said form (whole_page page.now) script.now answers.now) (form_why form) result }
     ensures later { (S.faults log.old ≤ S.faults log.new) × (O.faults out.old ≤ O.faults out.new) }
     ensures read_fault { result ≡ 4 → Rose (S.faults log.old) (S.faults log.new) }
     ensures out_fault { result ≡ 5 → Rose (O.faults out.old) (O.faults out.new) }
@@ -82,28 +81,29 @@ fn shown<S: Source, O: Sink>(
 {
     match form {
         Form::Html(_) => match page_teller(alloc, page, script, answers) {
-            Ok(mut teller) => answered(alloc, script, log, &mut teller, out),
+            Ok(mut teller) => answered(alloc, script, answers, log, &mut teller, out),
             Err(NoMemory) => NO_MEMORY,
         },
         Form::Tell(_) => {
             let mut teller = TranscriptTeller::new(alloc, script, answers);
-            answered(alloc, script, log, &mut teller, out)
+            answered(alloc, script, answers, log, &mut teller, out)
         }
         Form::Events(_) => {
             let mut teller = EventTeller::new(alloc, script, answers);
-            answered(alloc, script, log, &mut teller, out)
+            answered(alloc, script, answers, log, &mut teller, out)
         }
-        Form::Counts => answered(alloc, script, log, &mut CountsTeller::new(), out),
+        Form::Counts => answered(alloc, script, answers, log, &mut CountsTeller::new(), out),
         Form::CountsAt(line) => {
-            answered(alloc, script, log, &mut UseTeller::new(alloc, line), out)
+            answered(alloc, script, answers, log, &mut UseTeller::new(alloc, line), out)
         }
         Form::StateAt(line) => {
-            answered(alloc, script, log, &mut StateTeller::new(alloc, line), out)
+            answered(alloc, script, answers, log, &mut StateTeller::new(alloc, line), out)
         }
         Form::FrameAt(frame) => {
             answered(
                 alloc,
                 script,
+                answers,
                 log,
                 &mut HistoryTeller::of_frame(alloc, frame),
                 out,
@@ -113,13 +113,14 @@ fn shown<S: Source, O: Sink>(
             answered(
                 alloc,
                 script,
+                answers,
                 log,
                 &mut HistoryTeller::of_key(alloc, key),
                 out,
             )
         }
-        Form::Faults => answered(alloc, script, log, &mut FaultTeller::new(alloc), out),
-        Form::Sums => answered(alloc, script, log, &mut SumTeller::new(alloc), out),
+        Form::Faults => answered(alloc, script, answers, log, &mut FaultTeller::new(alloc), out),
+        Form::Sums => answered(alloc, script, answers, log, &mut SumTeller::new(alloc), out),
     }
 }
 
@@ -168,16 +169,16 @@ fn show_form<S: Source, F: Source, O: Sink>(
     ensures exact { (s a : Option (List (List ℕ)))
         → FileIs (has_script (files_of form)) (option_map F.left script.old) s
         → FileIs (has_answers (files_of form)) (option_map F.left answers.old) a
-        → Answers (S.left log.old) (S.left log.new) (O.taken out.old) (O.taken out.new) s
-        (form_said form (whole_page page.now) s a) (form_why form) result }
+        → Answers (S.left log.old) (S.left log.new) (O.taken out.old) (O.taken out.new) (beside s a)
+        (form_said form (whole_page page.now) s a) (form_why form) result
+        ⊎ LacksFile (map string_bytes words.now) (O.taken out.old) (O.taken out.new) result }
     ensures no_script { has_script (files_of form) ≡ true → script.old ≡ None
         → IsUnread (word_at (map string_bytes words.now) 1) (O.taken out.old) (O.taken out.new)
         result }
     ensures no_answers { (s : Option (List (List ℕ)))
         → FileIs (has_script (files_of form)) (option_map F.left script.old) s
         → has_answers (files_of form) ≡ true → answers.old ≡ None
-        → IsUnread (word_at (map string_bytes words.now) 2) (O.taken out.old) (O.taken out.new)
-        result ⊎ IsFaultStatus result }
+        → LacksFile (map string_bytes words.now) (O.taken out.old) (O.taken out.new) result }
     ensures later { (S.faults log.old ≤ S.faults log.new) × (O.faults out.old ≤ O.faults out.new) }
     ensures read_fault { result ≡ 4 → Rose (S.faults log.old) (S.faults log.new)
         ⊎ (FileFailed F.faults (has_script (files_of form)) script.old script.new
@@ -204,9 +205,10 @@ fn show_form<S: Source, F: Source, O: Sink>(
 /// Shows the log that the source gives, writes the text to `out` and flushes it. The words are the
 /// name of a form and its values. Where these name a script and its answers, `script` and `answers`
 /// are those files, none where a file could not be opened; other forms read neither. The status is
-/// 0 where the log replays and fits the script, 1 where memory was refused, 2 where the words are
-/// no form, 3 where a line is no legal move, 4 where the log or a file failed, 5 where the sink
-/// failed, 6 where the script does not fit, 8 where the log has more than 1,000,000,000,000 bytes.
+/// 0 where the log replays and fits the script and its answers, 1 where memory was refused, 2 where
+/// the words are no form, 3 where a line is no legal move, 4 where the log or a file failed, 5 where
+/// the sink failed, 6 where the script or the answers do not fit, 8 where the log has more than
+/// 1,000,000,000,000 bytes.
 pub fn run_show<S: Source, F: Source, O: Sink>(
     alloc: Global,
     words: &[String],
@@ -220,8 +222,9 @@ pub fn run_show<S: Source, F: Source, O: Sink>(
         → form_of (map string_bytes words.now) ≡ Some f
         → FileIs (has_script (files_of f)) (option_map F.left script.old) s
         → FileIs (has_answers (files_of f)) (option_map F.left answers.old) a
-        → SaysExactly s (form_said f (whole_page page.now) s a) (form_why f) (S.left log.old)
-        (O.taken out.old) (O.taken out.new) result }
+        → SaysExactly (beside s a) (form_said f (whole_page page.now) s a) (form_why f)
+        (S.left log.old) (O.taken out.old) (O.taken out.new) result
+        ⊎ LacksFile (map string_bytes words.now) (O.taken out.old) (O.taken out.new) result }
     ensures no_script { (f : Form) → form_of (map string_bytes words.now) ≡ Some f
         → has_script (files_of f) ≡ true → script.old ≡ None
         → IsUnread (word_at (map string_bytes words.now) 1) (O.taken out.old) (O.taken out.new)
@@ -230,9 +233,7 @@ pub fn run_show<S: Source, F: Source, O: Sink>(
         → form_of (map string_bytes words.now) ≡ Some f
         → FileIs (has_script (files_of f)) (option_map F.left script.old) s
         → has_answers (files_of f) ≡ true → answers.old ≡ None
-        → IsUnread (word_at (map string_bytes words.now) 2) (O.taken out.old) (O.taken out.new)
-        result
-        ⊎ IsFaultStatus result }
+        → LacksFile (map string_bytes words.now) (O.taken out.old) (O.taken out.new) result }
     ensures usage { form_of (map string_bytes words.now) ≡ None
         → Shows (O.taken out.old) (O.taken out.new) usage_text 2 result
         ⊎ IsRefusedLog (O.taken out.old) (O.taken out.new) result }

@@ -1,6 +1,6 @@
-use Rattle.std.proofs.Common.{◌≡◌, Bool, List, Option, ℕ, sym, ap, ◌∙◌, subst, option_map}
+use Rattle.std.proofs.Common.{◌≡◌, Bool, List, Option, ℕ, sym, ap, ◌∙◌, subst, option_map, inl}
 use Rattle.mm_types.specs.{Text}
-use Rattle.mm_log_walk.specs.{Answers}
+use Rattle.mm_log_walk.specs.{Answers, beside}
 use Rattle.mm_show.specs.{files_of, has_script, has_answers, form_said, form_why, FileIs, IsUnread, whole_page}
 use Rattle.mm_show.proofs.{file_lines}
 use Rattle.mm_show.proofs.top.show_form.Goals as goal
@@ -20,8 +20,8 @@ returns-clause-exact g c = λ s t fs ft.
     let named' : c.has_answers.result ≡ has_answers (files_of a.form) = c.has_answers.ensures ∙ ap has_answers c.files_of-files.ensures in
     let e : c.in-Ok.lines ≡ s = file_lines c.has_script.result ls c.in-Ok.lines s (subst (λ (b : Bool). FileIs b ls s) (sym named) fs) c.in-Ok.ensures.none c.in-Ok.ensures.lines in
     let e' : c.in-Ok-named_lines.lines ≡ t = file_lines c.has_answers.result lt c.in-Ok-named_lines.lines t (subst (λ (b : Bool). FileIs b lt t) (sym named') ft) c.in-Ok-named_lines.ensures.none c.in-Ok-named_lines.ensures.lines in
-    subst (λ (o : Option (List (List ℕ))). Answers left left' took took' o (form_said a.form page o t) (form_why a.form) status) e
-    (subst (λ (o : Option (List (List ℕ))). Answers left left' took took' c.in-Ok.lines (form_said a.form page c.in-Ok.lines o) (form_why a.form) status) e' c.shown.ensures.answers)
+    inl (subst (λ (o : Option (List (List ℕ))). Answers left left' took took' (beside o t) (form_said a.form page o t) (form_why a.form) status) e
+    (subst (λ (o : Option (List (List ℕ))). Answers left left' took took' (beside c.in-Ok.lines o) (form_said a.form page c.in-Ok.lines o) (form_why a.form) status) e' c.shown.ensures.answers))
 
 pub returns-in-Err-Failed-clause-no_script : goal.returns-in-Err-Failed-clause-no_script
 returns-in-Err-Failed-clause-no_script g c = λ has none.

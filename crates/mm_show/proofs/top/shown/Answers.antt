@@ -1,3 +1,5 @@
+use Rattle.std.proofs.Common.{refl, inl, inr}
+use Rattle.mm_log_walk.proofs.{begun_none}
 use Rattle.mm_show.specs.{whole_page}
 use Rattle.mm_show.proofs.{said_page, said_sums, told_as, said_is}
 use Rattle.mm_transcripts.specs.{transcript_rest}
@@ -44,3 +46,6 @@ returns-in-Faults-clause-answers g c =
 pub returns-in-Sums-clause-answers : goal.returns-in-Sums-clause-answers
 returns-in-Sums-clause-answers g c =
     told_as c.args.form _ (whole_page c.args.page.now) c.args.script.now c.args.answers.now _ _ _ _ _ _ c.in-Sums.is (said_sums c.new-in-Sums.result c.new-in-Sums.ensures.sums) c.answered-in-Sums.ensures.answers
+
+pub returns-in-Err-clause-answers : goal.returns-in-Err-clause-answers
+returns-in-Err-clause-answers g c = inr (inl refl, begun_none _ _ _ _)
