@@ -16,7 +16,7 @@ pub use Counted.{AreFew, of_class, of_kind}
 pub use SumRest.{sum_rest, sums_left}
 pub use Forms.{files_at, files_of, form_of, has_answers, has_observations, has_script, key_of, line_asked_for}
 pub use Forms.{page_at, pid_of, private_key, shared_key, word_at}
-pub use Showing.{FileFailed, FileIs, IsUnread, PageOf, form_said, form_sought, form_why, page_said}
+pub use Showing.{FileFailed, FileIs, IsUnread, LacksFile, PageOf, form_said, form_sought, form_why, page_said}
 pub use Showing.{sums_said, unread_text, usage_text, whole_page_text}
 pub use Observed.{bad_row_text, FileHas, IfGood, IsRefusedRow, observed}
 pub use Texts.{page_of, whole_page}

@@ -1,6 +1,6 @@
 -- What each form says of a log.
 -- Profile, "What a log shows".
-use Rattle.std.specs.Prelude.{◌≡◌, ◌⊎◌, ℕ, Bool, true, false, List, [], ◌∷◌, ◌++◌, Option, Some}
+use Rattle.std.specs.Prelude.{◌≡◌, ◌⊎◌, ℕ, ◌+◌, Bool, true, false, List, [], ◌∷◌, ◌++◌, Option, Some}
 use Rattle.std.specs.Prelude.{None, codes}
 use Rattle.mm_types.specs.{Text, Rose, Move}
 use Rattle.mm_move_classes.specs.{log_data}
@@ -12,6 +12,7 @@ use Rattle.mm_reports.specs.{counts_rows, fault_rows, frame_history, key_history
 use Rattle.mm_reports.specs.declared.styles.Style.TheVariants as style
 use Rattle.mm_transcripts.specs.{transcript}
 use Rattle.mm_events.specs.{events}
+use Rattle.mm_show.specs.Forms.{word_at}
 use Rattle.mm_show.specs.Words.{class_rows}
 use Rattle.mm_show.specs.Sums.{sums_text}
 use Rattle.mm_show.specs.declared.forms.Form.{Form}
@@ -105,6 +106,13 @@ unread_text name = codes "cannot read " ++ (name ++ 10 ∷ [])
 abbrev pub IsUnread : Text → Option Text → Option Text → ℕ → Type 0
 IsUnread name took took' result =
     Shows took took' (unread_text name) 4 result ⊎ IsRefusedLog took took' result
+
+-- one of the files that the words name was not read, of which the first stands at this place
+abbrev pub LacksFile : ℕ → List Text → Option Text → Option Text → ℕ → Type 0
+LacksFile first words took took' result =
+    IsUnread (word_at words first) took took' result
+    ⊎ (IsUnread (word_at words (first + 1)) took took' result
+    ⊎ IsUnread (word_at words (first + 2)) took took' result)
 
 abbrev pub usage_text : Text
 usage_text =

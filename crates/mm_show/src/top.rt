@@ -2,9 +2,9 @@ ghost use Rattle.std.specs.Prelude.{◌≡◌, ◌≢◌, ◌≤◌, ◌⊎◌, 
 ghost use Rattle.std.specs.Prelude.{Some, map, option_map, string_bytes, None};
 ghost use Rattle.mm_types.specs.{Rose};
 ghost use Rattle.mm_log_check.specs.{IsFaultStatus, Shows, IsRefusedLog};
-ghost use Rattle.mm_log_walk.specs.{Answers, SaysExactly, total_of};
+ghost use Rattle.mm_log_walk.specs.{Answers, SaysExactly, beside, total_of};
 ghost use Rattle.mm_show.specs.{Form, form_of, word_at, files_of, has_script, has_answers, has_observations, form_said, form_sought, form_why, FileIs, FileFailed};
-ghost use Rattle.mm_show.specs.{unread_text, files_at, IsUnread, usage_text, whole_page};
+ghost use Rattle.mm_show.specs.{unread_text, files_at, IsUnread, LacksFile, usage_text, whole_page};
 ghost use Rattle.mm_show.specs.{bad_row_text, FileHas, IfGood, IsRefusedRow, observed, page_of};
 
 use crate::forms::{Files, Form, asked, word_at};
@@ -55,7 +55,6 @@ fn unread<O: Sink>(alloc: Global, name: &[u8], out: &mut O) -> u8
     ensures out_fault { result ≡ 5 → Rose (O.faults out.old) (O.faults out.new) }
     ensures out_same { result ≢ 5 → O.faults out.new ≡ O.faults out.old }
     ensures gave { result ≢ 1 → result ≢ 5 → O.given out.new ≡ O.taken out.new }
-    ensures fault { IsFaultStatus result }
 {
     let mut text = Vec::new(alloc);
     match put_unread(name, &mut text) {
@@ -117,7 +116,7 @@ fn shown<S: Source, O: Sink>(
     out: &mut O,
 ) -> u8
     ensures answers { Answers (S.left log.old) (S.left log.new) (O.taken out.old) (O.taken out.new)
-        script.now (form_sought form)
+        (beside script.now answers.now) (form_sought form)
         (form_said form (page_of page.now named.now) script.now answers.now) (form_why form) result }
     ensures later { (S.faults log.old ≤ S.faults log.new) × (O.faults out.old ≤ O.faults out.new) }
     ensures read_fault { result ≡ 4 → Rose (S.faults log.old) (S.faults log.new) }
@@ -129,48 +128,48 @@ fn shown<S: Source, O: Sink>(
     let sought = form_sought(form);
     match form {
         Form::Html(_) => match page_teller(alloc, page, named, script, answers) {
-            Ok(mut teller) => answered(alloc, script, sought, log, &mut teller, out),
+            Ok(mut teller) => answered(alloc, script, answers, sought, log, &mut teller, out),
             Err(NoMemory) => NO_MEMORY,
         },
         Form::Tell(_) => {
             let mut teller = TranscriptTeller::new(alloc, script, answers);
-            answered(alloc, script, sought, log, &mut teller, out)
+            answered(alloc, script, answers, sought, log, &mut teller, out)
         }
         Form::Events(_) => {
             let mut teller = EventTeller::new(alloc, script, answers);
-            answered(alloc, script, sought, log, &mut teller, out)
+            answered(alloc, script, answers, sought, log, &mut teller, out)
         }
         Form::Counts => {
             let mut teller = CountsTeller::new(alloc, Style::Columns, &None, &None);
-            answered(alloc, script, sought, log, &mut teller, out)
+            answered(alloc, script, answers, sought, log, &mut teller, out)
         }
         Form::CountsCsv(_) => {
             let mut teller = CountsTeller::new(alloc, Style::Csv, script, answers);
-            answered(alloc, script, sought, log, &mut teller, out)
+            answered(alloc, script, answers, sought, log, &mut teller, out)
         }
         Form::CountsAt(line) => {
             let mut teller = UseTeller::new(alloc, line);
-            answered(alloc, script, sought, log, &mut teller, out)
+            answered(alloc, script, answers, sought, log, &mut teller, out)
         }
         Form::StateAt(line) => {
             let mut teller = StateTeller::new(alloc, line);
-            answered(alloc, script, sought, log, &mut teller, out)
+            answered(alloc, script, answers, sought, log, &mut teller, out)
         }
         Form::FrameAt(frame) => {
             let mut teller = HistoryTeller::of_frame(alloc, frame);
-            answered(alloc, script, sought, log, &mut teller, out)
+            answered(alloc, script, answers, sought, log, &mut teller, out)
         }
         Form::KeyAt(key) => {
             let mut teller = HistoryTeller::of_key(alloc, key);
-            answered(alloc, script, sought, log, &mut teller, out)
+            answered(alloc, script, answers, sought, log, &mut teller, out)
         }
         Form::Faults(style) => {
             let mut teller = FaultTeller::new(alloc, style);
-            answered(alloc, script, sought, log, &mut teller, out)
+            answered(alloc, script, answers, sought, log, &mut teller, out)
         }
         Form::Sums => {
             let mut teller = SumTeller::new(alloc);
-            answered(alloc, script, sought, log, &mut teller, out)
+            answered(alloc, script, answers, sought, log, &mut teller, out)
         }
     }
 }
@@ -244,11 +243,13 @@ fn show_beside<S: Source, F: Source, O: Sink>(
         → FileHas (has_observations (files_of form)) (option_map F.left observations.old) o
         → IfGood (observed script.now answers.now o) (O.taken out.old) (O.taken out.new) result
         (λ packed. Answers (S.left log.old) (S.left log.new) (O.taken out.old) (O.taken out.new)
-        script.now (form_sought form)
+        (beside script.now answers.now) (form_sought form)
         (form_said form (whole_page page.now (word_at (map string_bytes words.now) 1) packed)
-        script.now answers.now) (form_why form) result) ⊎ IsFaultStatus result }
+        script.now answers.now) (form_why form) result)
+        ⊎ LacksFile (files_at form) (map string_bytes words.now) (O.taken out.old) (O.taken out.new)
+        result }
     ensures no_observations { has_observations (files_of form) ≡ true → observations.old ≡ None
-        → IsUnread (word_at (map string_bytes words.now) 3) (O.taken out.old) (O.taken out.new)
+        → LacksFile (files_at form) (map string_bytes words.now) (O.taken out.old) (O.taken out.new)
         result }
     ensures later { (S.faults log.old ≤ S.faults log.new) × (O.faults out.old ≤ O.faults out.new) }
     ensures read_fault { result ≡ 4 → Rose (S.faults log.old) (S.faults log.new)
@@ -262,7 +263,7 @@ fn show_beside<S: Source, F: Source, O: Sink>(
     let is_named = has_observations(files_of(form));
     let bytes = match named_bytes(alloc, is_named, observations) {
         Ok(bytes) => bytes,
-        Err(FileFault::Failed) => return unread(alloc, word_at(words, 3), out),
+        Err(FileFault::Failed) => return unread(alloc, word_at(words, files_at(form) + 2), out),
         Err(FileFault::NoMemory) => return NO_MEMORY,
     };
     let packed = match observed(alloc, script, answers, &bytes) {
@@ -294,21 +295,22 @@ fn show_form<S: Source, F: Source, O: Sink>(
         → FileIs (has_answers (files_of form)) (option_map F.left answers.old) a
         → FileHas (has_observations (files_of form)) (option_map F.left observations.old) o
         → IfGood (observed s a o) (O.taken out.old) (O.taken out.new) result (λ packed.
-        Answers (S.left log.old) (S.left log.new) (O.taken out.old) (O.taken out.new) s
+        Answers (S.left log.old) (S.left log.new) (O.taken out.old) (O.taken out.new) (beside s a)
         (form_sought form)
         (form_said form (whole_page page.now (word_at (map string_bytes words.now) 1) packed) s a)
-        (form_why form) result) ⊎ IsFaultStatus result }
+        (form_why form) result)
+        ⊎ LacksFile (files_at form) (map string_bytes words.now) (O.taken out.old) (O.taken out.new) result }
     ensures no_script { has_script (files_of form) ≡ true → script.old ≡ None
         → IsUnread (word_at (map string_bytes words.now) (files_at form)) (O.taken out.old) (O.taken out.new)
         result }
     ensures no_answers { (s : Option (List (List ℕ)))
         → FileIs (has_script (files_of form)) (option_map F.left script.old) s
         → has_answers (files_of form) ≡ true → answers.old ≡ None
-        → IsUnread (word_at (map string_bytes words.now) (files_at form + 1)) (O.taken out.old) (O.taken out.new)
-        result ⊎ IsFaultStatus result }
+        → LacksFile (files_at form) (map string_bytes words.now) (O.taken out.old) (O.taken out.new)
+        result }
     ensures no_observations { has_observations (files_of form) ≡ true → observations.old ≡ None
-        → IsUnread (word_at (map string_bytes words.now) 3) (O.taken out.old) (O.taken out.new)
-        result ⊎ IsFaultStatus result }
+        → LacksFile (files_at form) (map string_bytes words.now) (O.taken out.old) (O.taken out.new)
+        result }
     ensures later { (S.faults log.old ≤ S.faults log.new) × (O.faults out.old ≤ O.faults out.new) }
     ensures read_fault { result ≡ 4 → Rose (S.faults log.old) (S.faults log.new)
         ⊎ (FileFailed F.faults (has_script (files_of form)) script.old script.new
@@ -347,11 +349,11 @@ fn show_form<S: Source, F: Source, O: Sink>(
 /// Shows the log that the source gives, writes the text to `out` and flushes it. The words are the
 /// name of a form and its values. Where these name a script, its answers and observations, `script`,
 /// `answers` and `observations` are those files, none where a file could not be opened; other forms
-/// read none. The status is 0 where the log replays, fits the script and has the line or page frame
-/// that is asked for, 1 where memory was refused, 2 where the words are no form, 3 where a line is no
-/// legal move, 4 where the log or a file failed, 5 where the sink failed, 6 where the script does not
-/// fit, a row of the observations is not good or the log has no such line or page frame, 8 where the
-/// log has more than 1,000,000,000,000 bytes.
+/// read none. The status is 0 where the log replays, fits the script and its answers and has the line
+/// or page frame that is asked for, 1 where memory was refused, 2 where the words are no form, 3
+/// where a line is no legal move, 4 where the log or a file failed, 5 where the sink failed, 6 where
+/// the script or the answers do not fit, a row of the observations is not good or the log has no such
+/// line or page frame, 8 where the log has more than 1,000,000,000,000 bytes.
 pub fn run_show<S: Source, F: Source, O: Sink>(
     alloc: Global,
     words: &[String],
@@ -368,10 +370,10 @@ pub fn run_show<S: Source, F: Source, O: Sink>(
         → FileIs (has_answers (files_of f)) (option_map F.left answers.old) a
         → FileHas (has_observations (files_of f)) (option_map F.left observations.old) o
         → IfGood (observed s a o) (O.taken out.old) (O.taken out.new) result (λ packed.
-        SaysExactly s (form_sought f)
+        SaysExactly (beside s a) (form_sought f)
         (form_said f (whole_page page.now (word_at (map string_bytes words.now) 1) packed) s a)
         (form_why f) (S.left log.old) (O.taken out.old) (O.taken out.new) result)
-        ⊎ IsFaultStatus result }
+        ⊎ LacksFile (files_at f) (map string_bytes words.now) (O.taken out.old) (O.taken out.new) result }
     ensures no_script { (f : Form) → form_of (map string_bytes words.now) ≡ Some f
         → has_script (files_of f) ≡ true → script.old ≡ None
         → IsUnread (word_at (map string_bytes words.now) (files_at f)) (O.taken out.old) (O.taken out.new)
@@ -380,13 +382,12 @@ pub fn run_show<S: Source, F: Source, O: Sink>(
         → form_of (map string_bytes words.now) ≡ Some f
         → FileIs (has_script (files_of f)) (option_map F.left script.old) s
         → has_answers (files_of f) ≡ true → answers.old ≡ None
-        → IsUnread (word_at (map string_bytes words.now) (files_at f + 1)) (O.taken out.old) (O.taken out.new)
-        result
-        ⊎ IsFaultStatus result }
+        → LacksFile (files_at f) (map string_bytes words.now) (O.taken out.old) (O.taken out.new)
+        result }
     ensures no_observations { (f : Form) → form_of (map string_bytes words.now) ≡ Some f
         → has_observations (files_of f) ≡ true → observations.old ≡ None
-        → IsUnread (word_at (map string_bytes words.now) 3) (O.taken out.old) (O.taken out.new)
-        result ⊎ IsFaultStatus result }
+        → LacksFile (files_at f) (map string_bytes words.now) (O.taken out.old) (O.taken out.new)
+        result }
     ensures usage { form_of (map string_bytes words.now) ≡ None
         → Shows (O.taken out.old) (O.taken out.new) usage_text 2 result
         ⊎ IsRefusedLog (O.taken out.old) (O.taken out.new) result }

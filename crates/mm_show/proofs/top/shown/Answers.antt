@@ -1,4 +1,6 @@
 use Rattle.mm_show.specs.{page_of}
+use Rattle.std.proofs.Common.{refl, inl, inr}
+use Rattle.mm_log_walk.proofs.{begun_none}
 use Rattle.mm_show.proofs.{said_page, said_sums, told_as, said_is}
 use Rattle.mm_transcripts.specs.{transcript_rest}
 use Rattle.mm_events.specs.{events_rest}
@@ -49,3 +51,6 @@ returns-in-Faults-clause-answers g c =
 pub returns-in-Sums-clause-answers : goal.returns-in-Sums-clause-answers
 returns-in-Sums-clause-answers g c =
     told_as c.args.form _ (page_of c.args.page.now c.args.named.now) c.args.script.now c.args.answers.now _ _ _ _ _ _ _ c.in-Sums.is c.form_sought-sought.ensures (said_sums c.new-teller-in-Sums.result c.new-teller-in-Sums.ensures.sums) c.answered-in-Sums.ensures.answers
+
+pub returns-in-Err-clause-answers : goal.returns-in-Err-clause-answers
+returns-in-Err-clause-answers g c = inr (inl refl, begun_none _ _ _ _)
