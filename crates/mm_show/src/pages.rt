@@ -42,11 +42,7 @@ ghost use Rattle.mm_show.specs.PageRest.{page_rest};
 
 /// What stands in front of a page's moves.
 #[tactic(auto, using(mm_text::proofs::DigitCounts::joined))]
-fn front_of(
-    alloc: Global,
-    page: &PageTexts<'_>,
-    named: &Named<'_>,
-) -> Result<Vec<u8>, NoMemory>
+fn front_of(alloc: Global, page: &PageTexts<'_>, named: &Named<'_>) -> Result<Vec<u8>, NoMemory>
     ensures { IfOk result (λ v. v.items ≡ front_text (page_of page.now named.now)) }
 {
     let mut text = Vec::new(alloc);

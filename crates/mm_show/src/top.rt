@@ -35,7 +35,8 @@ fn put_named(words: &[u8], name: &[u8], text: &mut Vec<u8>) -> Result<(), NoMemo
 }
 
 /// What is written where the words are no form.
-const USAGE: &[u8] = b"usage: mmshow html [SCRIPT [ANSWERS [OBSERVATIONS]]] | tell [SCRIPT [ANSWERS]] \
+const USAGE: &[u8] =
+    b"usage: mmshow html [SCRIPT [ANSWERS [OBSERVATIONS]]] | tell [SCRIPT [ANSWERS]] \
     | events [SCRIPT [ANSWERS]] | counts [LINE] | counts csv [SCRIPT [ANSWERS]] | state LINE \
     | frame N | key KEY | faults [csv] | sums\n";
 

@@ -4,7 +4,8 @@
 use clap::{Arg, ArgAction, Command};
 use mm_help::{asks, described, tell};
 use mm_html::{
-    UP_TO_ANSWERS, UP_TO_CLASSES, UP_TO_END, UP_TO_MOVES, UP_TO_NAME, UP_TO_OBSERVATIONS, UP_TO_SCRIPT,
+    UP_TO_ANSWERS, UP_TO_CLASSES, UP_TO_END, UP_TO_MOVES, UP_TO_NAME, UP_TO_OBSERVATIONS,
+    UP_TO_SCRIPT,
 };
 use mm_io::{StdSink, StdSource, buffered, exit_code, words};
 use mm_show::{PageTexts, run_show};
