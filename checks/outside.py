@@ -50,8 +50,9 @@ FORMS = [
     *(
         Form("mmshow", words, LOG, 4, 5, None)
         for words in (
-            ["sums"], ["faults"], ["html"], ["tell"], ["counts"], ["counts", "9"], ["state", "9"],
-            ["frame", "1"], ["key", "p1.16"], ["events"],
+            ["sums"], ["faults"], ["html"], ["html", SCRIPT], ["tell"], ["tell", SCRIPT],
+            ["counts"], ["counts", "9"], ["state", "9"], ["frame", "1"], ["key", "p1.16"],
+            ["events"],
         )
     ),
     Form("mmshow", ["help"], LOG, None, 5, None),

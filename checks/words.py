@@ -107,7 +107,8 @@ OTHER: dict[str, list[list[Word]]] = {
         ["check", "where", "p1.16"], ["run"], ["bulk", "1", "2"],
     ],
     "mmshow": [
-        [], ["html", "a", "b", "c"], ["html", "-h"], ["--", "sums"], ["sums", "x"], ["sums", ""],
+        [], ["html", "a", "b", "c", "d"], ["html", "-h"], ["--", "sums"], ["sums", "x"],
+        ["sums", ""],
         ["sum"], ["none"], ["tell", "a", "b", "c"], ["tell", "-h"], ["counts", "x"],
         ["counts", "1", "2"], ["counts", "0"], ["counts", "1000001"], ["counts", "csv", "a", "b", "c"],
         ["counts", "1", "csv"], ["counts", "CSV"], ["counts", ""], ["state"], ["state", ""],

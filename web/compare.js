@@ -5,7 +5,8 @@ const MOST_COMPARED = 8; // lines
 function findStrangers({ data, survey, space }) {
   const { machine, count, lines } = data;
   const { numbers } = survey;
-  const { spaces, isObserved, charge, limit } = space;
+  const { spaces, isObserved, isStrange, charge, limit } = space;
+  if (isStrange) return 'The observations are not of this run: they are of other processes.';
 
   // the pages of copies that are charged with their views: those marked, and those copied
   function chargedCopies(line) {

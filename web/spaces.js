@@ -93,6 +93,7 @@ function readSpaces(data) {
   const stands = new Map(); // each kind of region once
   const charges = []; // {line, charged, limit}
   let isObserved = false;
+  let isStrange = false; // a row of a process or a line that the log does not have
 
   function standOf(numbers) {
     const name = Object.values(numbers).join();
@@ -100,6 +101,10 @@ function readSpaces(data) {
     return stands.get(name);
   }
   function region(line, pid, from, to, numbers) {
+    if (!(processes[pid]?.line <= line && line <= count)) {
+      isStrange = true;
+      return;
+    }
     spaces[pid].lay(line, from, to, numbers && standOf(numbers));
     isObserved = true;
   }
@@ -131,7 +136,8 @@ function readSpaces(data) {
     charges.forEach((one, at) => values.fill(one[name], one.line, charges[at + 1]?.line));
     return charges.length ? values : null;
   }
-  return { spaces, isObserved, charge: column('charged'), limit: column('limit'), stands };
+  const [charge, limit] = [column('charged'), column('limit')];
+  return { spaces, isObserved, isStrange, charge, limit, stands };
 }
 
 // The numbers of the processes that are shown: the one that was chosen, or those that do most.

@@ -89,7 +89,7 @@ class Packer:
 def packed(data: bytes, count: int, processes: dict[int, int]) -> str:
     """The packed observations.
 
-    `count` is how many lines the log has; `processes` has the line at which each process was made.
+    `count` is how many lines have answers; `processes` has the line at which each process was made.
     Raises BadObservation at the first line that is none.
     """
     lines = data.replace(b"\r\n", b"\n").split(b"\n")

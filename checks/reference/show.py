@@ -602,23 +602,33 @@ def answer_data(answer):
 
 def do_html(data, page, names):
     script, answers = texts(names)
+    packed = observed(names[2], script, answers) if len(names) > 2 else ''
     page = open(page, encoding='ascii').read()
     islands = {'CLASSES': class_table(), 'MOVES': island(data, script),
                'SCRIPT': ''.join(safe(x) + '\n' for x in script or []),
                'ANSWERS': ''.join(answer_data(x) + '\n' for x in answers or []),
                'NAME': safe(names[0]) + '\n' if names else '',
-               'OBSERVATIONS': observed(data, names[2]) if len(names) > 2 else ''}
+               'OBSERVATIONS': packed}
     for name, text in islands.items():
         page = page.replace('@%s@' % name, text)
     return page.removesuffix('\n')
 
 
-def observed(data, name):
-    """The observations of the file, packed."""
-    made = [(m[1], m[2][1]) for m in moves_of(data) if m[0] == 'at' and m[2][0] == 'process']
-    count = sum(m[0] == 'at' for m in moves_of(data))
+def observed(name, script, answers):
+    """The observations of a file, packed, where they can be of a script and its answers."""
+    answered = [(line, answer) for line, answer in zip(script, answers) if first_word(answer) not in ('bad', 'too')]
+    made = {}
+    for at, (line, answer) in enumerate(answered, 1):
+        pid = remarks.number(answer[3:]) if first_word(line) == 'process' and answer.startswith('ok ') else None
+        if pid is not None and pid < 256:
+            made[pid] = at
     with open(name, 'rb') as file:
-        return observations.packed(file.read(), count, dict((pid, line) for line, pid in made))
+        return observations.packed(file.read(), len(answered), made)
+
+
+def first_word(line):
+    """The first word of a line of at most 256 bytes, or nothing."""
+    return line.split(' ')[0] if len(line) <= 256 else ''
 
 
 def class_table():
@@ -679,7 +689,7 @@ def form_of(argv):
     return None
 
 
-USAGE = ('usage: mmshow html [SCRIPT [ANSWERS]] | tell [SCRIPT [ANSWERS]] | events [SCRIPT [ANSWERS]] | counts [LINE]'
+USAGE = ('usage: mmshow html [SCRIPT [ANSWERS [OBSERVATIONS]]] | tell [SCRIPT [ANSWERS]] | events [SCRIPT [ANSWERS]] | counts [LINE]'
          ' | counts csv [SCRIPT [ANSWERS]] | state LINE | frame N | key KEY | faults [csv] | sums\n')
 
 

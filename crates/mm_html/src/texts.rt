@@ -219,11 +219,19 @@ pub const UP_TO_ANSWERS: &str = "\
 </script>\n\
 <script type=\"text/plain\" id=\"data-answers\">";
 
+/// The page up to the name of the script's file.
+pub const UP_TO_NAME: &str = "\
+</script>\n\
+<script type=\"text/plain\" id=\"data-name\">";
+
+/// The page up to the packed observations.
+pub const UP_TO_OBSERVATIONS: &str = "\
+</script>\n\
+<script type=\"text/plain\" id=\"data-observations\">";
+
 /// The page up to the page's last byte.
 pub const UP_TO_END: &str = "\
 </script>\n\
-<script type=\"text/plain\" id=\"data-name\"></script>\n\
-<script type=\"text/plain\" id=\"data-observations\"></script>\n\
 <script>\n\
 'use strict';\n\
 const element = (id) => document.getElementById(id);\n\
@@ -831,12 +839,17 @@ const spaces = processes.map(({ pid }) => new Space(pid));\n\
 const stands = new Map();\n\
 const charges = [];\n\
 let isObserved = false;\n\
+let isStrange = false;\n\
 function standOf(numbers) {\n\
 const name = Object.values(numbers).join();\n\
 if (!stands.has(name)) stands.set(name, { id: stands.size, ...numbers });\n\
 return stands.get(name);\n\
 }\n\
 function region(line, pid, from, to, numbers) {\n\
+if (!(processes[pid]?.line <= line && line <= count)) {\n\
+isStrange = true;\n\
+return;\n\
+}\n\
 spaces[pid].lay(line, from, to, numbers && standOf(numbers));\n\
 isObserved = true;\n\
 }\n\
@@ -865,7 +878,8 @@ const values = new Int32Array(count + 1);\n\
 charges.forEach((one, at) => values.fill(one[name], one.line, charges[at + 1]?.line));\n\
 return charges.length ? values : null;\n\
 }\n\
-return { spaces, isObserved, charge: column('charged'), limit: column('limit'), stands };\n\
+const [charge, limit] = [column('charged'), column('limit')];\n\
+return { spaces, isObserved, isStrange, charge, limit, stands };\n\
 }\n\
 const MOST_STRIPS = 6;\n\
 function chooseProcesses({ data: { processes }, view, space: { spaces } }) {\n\
@@ -1059,7 +1073,8 @@ const MOST_COMPARED = 8;\n\
 function findStrangers({ data, survey, space }) {\n\
 const { machine, count, lines } = data;\n\
 const { numbers } = survey;\n\
-const { spaces, isObserved, charge, limit } = space;\n\
+const { spaces, isObserved, isStrange, charge, limit } = space;\n\
+if (isStrange) return 'The observations are not of this run: they are of other processes.';\n\
 function chargedCopies(line) {\n\
 let sum = 0;\n\
 for (const one of spaces.filter(Boolean)) {\n\

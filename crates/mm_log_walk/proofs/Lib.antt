@@ -4,6 +4,8 @@ pub mod Divided
 pub mod Again
 pub mod Readings
 pub mod FileReads
-pub use Tellings.{closes_full, closes_misfit, closes_stop, has_told, tells_more, tells_none}
+pub mod AnswersWorked
+pub use Tellings.{begun_none, begun_pour, begun_take, broken_status, closes_full, halts_stop}
+pub use Tellings.{misfit_halts, tells_more, tells_none, told_all, told_cut, told_none}
 pub use ClassKnown.{class_known, classes_taken}
 pub use Readings.{says_exactly}

@@ -20,6 +20,12 @@ HasLines left None = ⊥
 HasLines None (Some lines) = ⊥
 HasLines (Some left) (Some lines) = (text : Text) → left ≡ Some text → lines ≡ lines_of text
 
+-- and these are its bytes
+abbrev pub HasBytes : Option (Option Text) → Option Text → Type 0
+HasBytes left None = ⊥
+HasBytes None (Some bytes) = ⊥
+HasBytes (Some left) (Some bytes) = (text : Text) → left ≡ Some text → bytes ≡ text
+
 -- the count of faults of a file, if there is one
 abbrev pub total_of : {F : Type 0} → (F → ℕ) → Option F → ℕ
 total_of faults None = 0

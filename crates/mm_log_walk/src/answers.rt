@@ -3,7 +3,7 @@ ghost use Rattle.mm_types.specs.{Rose, decimal};
 ghost use Rattle.mm_move_rules.specs.{unstarted, numbered};
 ghost use Rattle.mm_replay.specs.Standing.{life as life_of};
 ghost use Rattle.mm_log_check.specs.{IsFaultStatus};
-ghost use Rattle.mm_log_walk.specs.{is_broken, ends_well, closing_status, close_words, refused_words, said_by, Answers};
+ghost use Rattle.mm_log_walk.specs.{is_broken, ends_well, closing_status, close_words, refused_words, said_by, Answers, beside};
 
 use crate::closings::Closing;
 use crate::lines::Lines;
@@ -33,6 +33,8 @@ fn status_of(closing: Closing, sought: Sought, life: &Life) -> u8
         Closing::Ended(Ending::ReadFault) => 4,
         Closing::Ended(Ending::NoMemory) => 1,
         Closing::Misfit(_) => 6,
+        Closing::Answer(_) => 6,
+        Closing::Surplus(_) => 6,
         Closing::OutFault => 5,
     }
 }
@@ -118,7 +120,7 @@ fn put_bad_line<T: Teller>(
     Ok(())
 }
 
-/// Writes what the log lacks, or where it or the script is bad.
+/// Writes what the log lacks, or where it, the script or an answer is bad.
 fn put_close<T: Teller>(
     closing: Closing,
     sought: Sought,
@@ -135,6 +137,8 @@ fn put_close<T: Teller>(
             put_bad_line(line, refused, life, teller, text)
         }
         Closing::Misfit(line) => put_numbered(b"script line ", u64::from(line), text),
+        Closing::Answer(line) => put_numbered(b"answer line ", line, text),
+        Closing::Surplus(line) => put_numbered(b"answer line ", line, text),
         Closing::Ended(Ending::TooLong) => {
             text.extend_from_slice(b"too long\n")?;
             Ok(())
@@ -164,6 +168,7 @@ fn told_on<S: Source, T: Teller, O: Sink>(
     life: &mut Life,
     alloc: Global,
     script: &Option<Lines>,
+    answers: &Option<Lines>,
     sought: Sought,
     log: &mut S,
     teller: &mut T,
@@ -172,7 +177,7 @@ fn told_on<S: Source, T: Teller, O: Sink>(
     requires life { life_of life.old ≡ unstarted }
     requires counted { T.counted teller.old ≡ 0 }
     ensures answers { Answers (S.left log.old) (S.left log.new) (O.taken out.old) (O.taken out.new)
-        script.now sought (said_by (T.rest teller.old)) T.why result }
+        (beside script.now answers.now) sought (said_by (T.rest teller.old)) T.why result }
     ensures later { (S.faults log.old ≤ S.faults log.new) × (O.faults out.old ≤ O.faults out.new) }
     ensures read_fault { result ≡ 4 → Rose (S.faults log.old) (S.faults log.new) }
     ensures out_fault { result ≡ 5 → Rose (O.faults out.old) (O.faults out.new) }
@@ -181,7 +186,7 @@ fn told_on<S: Source, T: Teller, O: Sink>(
     ensures gave { result ≢ 1 → result ≢ 5 → O.given out.new ≡ O.taken out.new }
 {
     let mut text = Vec::new(alloc);
-    let closing = tell_log(life, script, log, teller, &mut text, out);
+    let closing = tell_log(life, script, answers, log, teller, &mut text, out);
     if is_broken(closing) {
         return status_of(closing, sought, life);
     }
@@ -196,13 +201,14 @@ fn told_on<S: Source, T: Teller, O: Sink>(
 }
 
 /// Tells a log: writes its text to `out`, in pieces of some 32 KiB while the log is read, and
-/// flushes it. The status is 0 where the log replays, fits the script and has what is sought, 1
-/// where memory was refused, 3 where a line is no legal move, 4 where a read failed, 5 where a write
-/// failed, 6 where the script does not fit or the log has not what is sought, 8 where the log is too
-/// long. With 1 and 5 a front of the text may have been written.
+/// flushes it. The status is 0 where the log replays, fits the script and its answers and has what is
+/// sought, 1 where memory was refused, 3 where a line is no legal move, 4 where a read failed, 5
+/// where a write failed, 6 where the script or the answers do not fit or the log has not what is
+/// sought, 8 where the log is too long. With 1 and 5 a front of the text was written.
 pub fn answered<S: Source, T: Teller, O: Sink>(
     alloc: Global,
     script: &Option<Lines>,
+    answers: &Option<Lines>,
     sought: Sought,
     log: &mut S,
     teller: &mut T,
@@ -210,7 +216,7 @@ pub fn answered<S: Source, T: Teller, O: Sink>(
 ) -> u8
     requires { T.counted teller.old ≡ 0 }
     ensures answers { Answers (S.left log.old) (S.left log.new) (O.taken out.old) (O.taken out.new)
-        script.now sought (said_by (T.rest teller.old)) T.why result }
+        (beside script.now answers.now) sought (said_by (T.rest teller.old)) T.why result }
     ensures later { (S.faults log.old ≤ S.faults log.new) × (O.faults out.old ≤ O.faults out.new) }
     ensures read_fault { result ≡ 4 → Rose (S.faults log.old) (S.faults log.new) }
     ensures out_fault { result ≡ 5 → Rose (O.faults out.old) (O.faults out.new) }
@@ -219,5 +225,5 @@ pub fn answered<S: Source, T: Teller, O: Sink>(
     ensures gave { result ≢ 1 → result ≢ 5 → O.given out.new ≡ O.taken out.new }
 {
     let mut life = Life::new(alloc);
-    told_on(&mut life, alloc, script, sought, log, teller, out)
+    told_on(&mut life, alloc, script, answers, sought, log, teller, out)
 }

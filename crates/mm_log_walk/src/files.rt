@@ -2,7 +2,7 @@ ghost use Rattle.std.specs.Prelude.{◌≡◌, ◌≤◌, ◌⊎◌, ℕ, List, 
 ghost use Rattle.std.specs.Prelude.{option_map, IfOk, Ok};
 ghost use Rattle.std.specs.Prelude.{Err};
 ghost use Rattle.mm_types.specs.{Rose, Took};
-ghost use Rattle.mm_log_walk.specs.Files.{IsRead, ReadsOn, HasLines, total_of};
+ghost use Rattle.mm_log_walk.specs.Files.{IsRead, ReadsOn, HasBytes, HasLines, total_of};
 
 use crate::lines::Lines;
 use mm_io::Source;
@@ -74,6 +74,33 @@ pub fn named_lines<F: Source>(
         return Err(FileFault::Failed);
     };
     lines_in(alloc, file)
+}
+
+/// The bytes of a file, if it is named; none in `file` stands for one that could not be opened.
+pub fn named_bytes<F: Source>(
+    alloc: Global,
+    is_named: bool,
+    file: &mut Option<F>,
+) -> Result<Option<Vec<u8>>, FileFault>
+    ensures none { is_named ≡ false → result ≡ Ok None }
+    ensures untouched { is_named ≡ false → file.new ≡ file.old }
+    ensures bytes { is_named ≡ true → IfOk result (λ o. HasBytes (option_map F.left file.old)
+        (option_map (λ v. v.items) o)) }
+    ensures missing { is_named ≡ true → file.old ≡ None → result ≡ Err FileFault.Failed }
+    ensures later { total_of F.faults file.old ≤ total_of F.faults file.new }
+    ensures blame { result ≡ Err FileFault.Failed → (file.old ≡ None)
+        ⊎ Rose (total_of F.faults file.old) (total_of F.faults file.new) }
+{
+    if !is_named {
+        return Ok(None);
+    }
+    let Some(file) = file else {
+        return Err(FileFault::Failed);
+    };
+    match read_all(alloc, file) {
+        Ok(bytes) => Ok(Some(bytes)),
+        Err(fault) => Err(fault),
+    }
 }
 
 /// The lines of a file from here to its end.

@@ -1,39 +1,23 @@
-ghost use Rattle.std.specs.Prelude.{◌≡◌, true, MatchOption, bytes_eq, codes, option_map};
-ghost use Rattle.mm_log_walk.specs.{first_word, is_ending_word, is_access_word, is_thread_word, is_section_word, is_memory_word, is_system_word};
+ghost use Rattle.std.specs.Prelude.{◌≡◌, true, false, MatchOption, option_map};
+ghost use Rattle.mm_types.specs.declared.moves.Move.TheVariants as move;
+ghost use Rattle.mm_log_walk.specs.{is_ending_word, is_section_word, is_memory_word, is_system_word};
 ghost use Rattle.mm_log_walk.specs.{is_refusable_word, is_call_word, fits_word, fits_line, fits, IsMisfit};
+ghost use Rattle.mm_log_walk.specs.{beside, end_closing, fits_answer, fits_script, is_answered, is_bad_text, is_long_text, line_of, misfit_closing};
+ghost use Rattle.mm_log_walk.specs.{surplus, surplus_among};
 
+use crate::answer_forms::can_answer;
+use crate::closings::Closing;
 use crate::lines::Lines;
+use crate::words::{first_word, is_access_word, is_thread_word};
+use mm_log_check::Ending;
 use mm_script::is_text;
+use mm_text::{LineBuf, put_decimal};
 use mm_types::{LineKind, Move};
-
-/// The bytes of a line before its first space.
-fn first_word(line: &[u8]) -> &[u8]
-    ensures { result.now ≡ first_word line.now }
-{
-    for i in 0..line.len() {
-        if line[i] == b' ' {
-            return &line[..i];
-        }
-    }
-    line
-}
 
 fn is_ending_word(word: &[u8]) -> bool
     ensures { result ≡ is_ending_word word.now }
 {
     is_text(word, b"exit") || is_text(word, b"free") || is_text(word, b"unmap")
-}
-
-fn is_access_word(word: &[u8]) -> bool
-    ensures { result ≡ is_access_word word.now }
-{
-    is_text(word, b"read") || is_text(word, b"write") || is_text(word, b"exec")
-}
-
-fn is_thread_word(word: &[u8]) -> bool
-    ensures { result ≡ is_thread_word word.now }
-{
-    is_text(word, b"begin") || is_text(word, b"resume")
 }
 
 fn is_section_word(word: &[u8]) -> bool
@@ -114,17 +98,147 @@ fn fits_line(line: Option<&[u8]>, kind: LineKind) -> bool
     }
 }
 
-/// The line of the script, if there is one, that leaves no room for a move: it begins with this
-/// move, and the script has no such line, or its first word is none of those that a line of this
-/// kind begins with.
-pub(crate) fn misfit(script: &Option<Lines>, m: &Move) -> Option<u32>
-    ensures { MatchOption result (fits script.now m.now ≡ true) (IsMisfit script.now m.now) }
+/// Whether the line of this number is one of the script's lines, of a form that it can have.
+fn fits_script(script: &Option<Lines>, n: u32, kind: LineKind) -> bool
+    ensures { result ≡ fits_script script.now n kind }
 {
-    match (script, *m) {
-        (Some(lines), Move::At(n, kind)) => {
-            let line = lines.get((n as usize).saturating_sub(1));
-            if fits_line(line, kind) { None } else { Some(n) }
+    match script {
+        Some(lines) => fits_line(lines.get((n as usize).saturating_sub(1)), kind),
+        None => true,
+    }
+}
+
+/// The line of this number, counted from 1.
+fn line_of(script: &Option<Lines>, n: u32) -> Option<&[u8]>
+    ensures { option_map (λ l. l.now) result ≡ line_of script.now n }
+{
+    match script {
+        Some(lines) => lines.get((n as usize).saturating_sub(1)),
+        None => None,
+    }
+}
+
+/// Whether a line has an answer that it can have.
+fn fits_answer(line: Option<&[u8]>, answer: Option<&[u8]>) -> bool
+    ensures { result ≡ fits_answer (option_map (λ l. l.now) line.entry)
+        (option_map (λ a. a.now) answer.entry) }
+{
+    match (line, answer) {
+        (_, None) => false,
+        (None, Some(_)) => true,
+        (Some(line), Some(answer)) => can_answer(first_word(line), answer),
+    }
+}
+
+fn is_answered(script: &Option<Lines>, answers: &Option<Lines>, n: u32) -> bool
+    ensures { result ≡ is_answered (beside script.now answers.now) n }
+{
+    match answers {
+        Some(lines) => {
+            fits_answer(
+                line_of(script, n),
+                lines.get((n as usize).saturating_sub(1)),
+            )
         }
+        None => true,
+    }
+}
+
+/// How a line of this kind does not fit, where it does not.
+fn line_misfit(
+    script: &Option<Lines>,
+    answers: &Option<Lines>,
+    n: u32,
+    kind: LineKind,
+) -> Option<Closing>
+    ensures { MatchOption result (fits (beside script.now answers.now) (move.At n kind) ≡ true)
+        (λ c. (fits (beside script.now answers.now) (move.At n kind) ≡ false)
+        × (c ≡ misfit_closing (beside script.now answers.now) n kind)) }
+{
+    if !fits_script(script, n, kind) {
+        return Some(Closing::Misfit(n));
+    }
+    if is_answered(script, answers, n) {
+        None
+    } else {
+        Some(Closing::Answer(u64::from(n)))
+    }
+}
+
+/// Why a move leaves the log no room beside its script and its answers: it begins a line that the
+/// script does not have, or with a first word that a line of this kind does not begin with; or the
+/// line has no answer, or one that it cannot have.
+pub(crate) fn misfit(script: &Option<Lines>, answers: &Option<Lines>, m: &Move) -> Option<Closing>
+    ensures { MatchOption result (fits (beside script.now answers.now) m.now ≡ true)
+        (IsMisfit (beside script.now answers.now) m.now) }
+{
+    match *m {
+        Move::At(n, kind) => line_misfit(script, answers, n, kind),
         _ => None,
+    }
+}
+
+/// Whether a run writes this behind the answers where the line of this number is too long.
+#[tactic(auto, using(mm_text::proofs::DigitCounts::joined))]
+pub fn is_long_text(n: u64, text: &[u8]) -> bool
+    ensures { result ≡ is_long_text n text.now }
+{
+    let mut line = LineBuf::new();
+    line.push_slice(b"too long line ");
+    put_decimal(&mut line, n);
+    is_text(text, line.as_slice())
+}
+
+/// Whether a run writes this behind the answers where the line of this number is none.
+#[tactic(auto, using(mm_text::proofs::DigitCounts::joined))]
+pub fn is_bad_text(n: u64, text: &[u8]) -> bool
+    ensures { result ≡ is_bad_text n text.now }
+{
+    let mut line = LineBuf::new();
+    line.push_slice(b"bad line ");
+    put_decimal(&mut line, n);
+    line.push_slice(b" column ");
+    text.starts_with(line.as_slice())
+}
+
+/// The first answer that is one too many, of the two behind those of so many lines.
+fn surplus_among(n: u32, first: Option<&[u8]>, second: Option<&[u8]>) -> Option<u64>
+    ensures { result ≡ surplus_among n (option_map (λ t. t.now) first.entry)
+        (option_map (λ t. t.now) second.entry) }
+{
+    let Some(text) = first else {
+        return None;
+    };
+    let next = u64::from(n) + 1;
+    if !is_bad_text(next, text) && !is_long_text(next, text) {
+        return Some(next);
+    }
+    if second.is_some() {
+        Some(next + 1)
+    } else {
+        None
+    }
+}
+
+/// The first answer that is one too many, where the log has so many lines.
+fn surplus(answers: &Option<Lines>, n: u32) -> Option<u64>
+    ensures { result ≡ surplus answers.now n }
+{
+    match answers {
+        Some(lines) => surplus_among(n, lines.get(n as usize), lines.get(n as usize + 1)),
+        None => None,
+    }
+}
+
+/// How the log closes that ends so, after so many lines.
+pub(crate) fn end_closing(answers: &Option<Lines>, n: u32, ending: Ending) -> Closing
+    ensures { result ≡ end_closing answers.now n ending }
+{
+    match ending {
+        Ending::Yes => match surplus(answers, n) {
+            Some(line) => Closing::Surplus(line),
+            None => Closing::Ended(Ending::Yes),
+        },
+        other => Closing::Ended(other),
     }
 }

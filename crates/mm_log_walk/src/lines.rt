@@ -1,4 +1,4 @@
-ghost use Rattle.std.specs.Prelude.{◌≡◌, ◌++◌, ◌∷◌, [], map, option_map, OnOk, IfOk, slice_get};
+ghost use Rattle.std.specs.Prelude.{◌≡◌, ◌++◌, ◌∷◌, [], map, option_map, OnOk, IfOk, slice_get, length};
 ghost use Rattle.mm_script.specs.{without_return};
 ghost use Rattle.mm_log_walk.specs.Lines.{lines_of};
 ghost use Rattle.mm_log_walk.specs.Shown.{shown_lines, answer_lines};
@@ -57,6 +57,13 @@ impl Lines {
     {
         let lines = divided(alloc, bytes)?;
         Ok(Lines { lines })
+    }
+
+    /// How many lines the file has.
+    pub fn len(&self) -> usize
+        ensures { result ≡ length self.now }
+    {
+        self.lines.len()
     }
 
     /// A line, by its place from 0 on, if the file has it.

@@ -1,5 +1,5 @@
-ghost use Rattle.std.specs.Prelude.{OnOk};
-ghost use Rattle.mm_io.specs.{CountsFaults};
+ghost use Rattle.std.specs.Prelude.{OnOk, OnErr, true};
+ghost use Rattle.mm_io.specs.{CountsFaults, Wrote};
 ghost use Rattle.mm_log_walk.specs.{Poured};
 
 use mm_io::{Sink, write_all};
@@ -13,6 +13,7 @@ const MOST_KEPT: usize = 32_768;
 pub(crate) fn pour<O: Sink>(text: &mut Vec<u8>, out: &mut O) -> Result<(), Failed>
     ensures poured { OnOk result (Poured (O.taken out.old) (O.taken out.new) text.old.items
         text.new.items) }
+    ensures cut { OnErr result (Wrote (O.taken out.old) (O.taken out.new) text.old.items true) }
     ensures cause { CountsFaults (O.faults out.old) (O.faults out.new) result }
 {
     if text.len() < MOST_KEPT {

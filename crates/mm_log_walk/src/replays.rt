@@ -4,10 +4,10 @@ ghost use Rattle.mm_types.specs.{Move, Rose};
 ghost use Rattle.mm_move_rules.specs.{unstarted, IsLegal, after_move};
 ghost use Rattle.mm_replay.specs.Standing.{life as life_of};
 ghost use Rattle.mm_log_check.specs.{Ending, IsReadyToRead};
-ghost use Rattle.mm_log_walk.specs.{RestOf, Tells, Closes, is_broken};
+ghost use Rattle.mm_log_walk.specs.{RestOf, Tells, Halts, beside, is_broken};
 
 use crate::closings::Closing;
-use crate::fitting::misfit;
+use crate::fitting::{end_closing, misfit};
 use crate::lines::Lines;
 use crate::pouring::pour;
 use crate::tellers::Teller;
@@ -40,6 +40,7 @@ fn next<S: Source, T: Teller, O: Sink>(
     life: &mut Life,
     reader: &mut LogReader,
     script: &Option<Lines>,
+    answers: &Option<Lines>,
     source: &mut S,
     teller: &mut T,
     text: &mut Vec<u8>,
@@ -48,14 +49,14 @@ fn next<S: Source, T: Teller, O: Sink>(
     requires ready { IsReadyToRead reader.old }
     requires few { T.counted teller.old + 1 < 2 ^ 63 }
     ensures told { (left took : Option (List ℕ)) (rest : RestOf)
-        → Tells left (S.left source.old) took (O.taken out.old) script.now reader.old rest
-        (T.rest teller.old) (life_of life.old) text.old.items
+        → Tells left (S.left source.old) took (O.taken out.old) (beside script.now answers.now)
+        reader.old rest (T.rest teller.old) (life_of life.old) text.old.items
         → MatchResult result
-        (λ u. Tells left (S.left source.new) took (O.taken out.new) script.now reader.new rest
-        (T.rest teller.new) (life_of life.new) text.new.items)
-        (λ c. is_broken c ≡ false
-        → Closes left (S.left source.new) took (O.taken out.new) script.now rest c
-        (T.rest teller.new) (life_of life.new) text.new.items) }
+        (λ u. Tells left (S.left source.new) took (O.taken out.new) (beside script.now answers.now)
+        reader.new rest (T.rest teller.new) (life_of life.new) text.new.items)
+        (λ c. Halts (is_broken c) left (S.left source.new) took (O.taken out.new)
+        (beside script.now answers.now) rest c (T.rest teller.new) (life_of life.new)
+        text.new.items) }
     ensures ready { OnOk result
         (IsReadyToRead reader.new × (reader.new.lines ≡ reader.old.lines + 1)) }
     ensures counted { T.counted teller.new ≤ T.counted teller.old + 1 }
@@ -71,10 +72,10 @@ fn next<S: Source, T: Teller, O: Sink>(
     let mut m = Move::Clear(Frame(0));
     match reader.take_next(life, source, &mut m) {
         Ok(()) => {}
-        Err(e) => return Err(Closing::Ended(e)),
+        Err(e) => return Err(end_closing(answers, life.line(), e)),
     }
-    match misfit(script, &m) {
-        Some(line) => return Err(Closing::Misfit(line)),
+    match misfit(script, answers, &m) {
+        Some(closing) => return Err(closing),
         None => {}
     }
     match take(life, &m, teller, text) {
@@ -88,12 +89,13 @@ fn next<S: Source, T: Teller, O: Sink>(
 }
 
 /// Tells a log from its first line to its end, or to the first line that is none of a legal move,
-/// or that the script does not fit. What it tells is written to `out` in pieces; `text` is what of
+/// or that the script or its answers do not fit. What it tells is written to `out` in pieces; `text` is what of
 /// it is kept yet.
 #[tactic(auto, using(crate::proofs::Tellings::tellings))]
 pub(crate) fn tell_log<S: Source, T: Teller, O: Sink>(
     life: &mut Life,
     script: &Option<Lines>,
+    answers: &Option<Lines>,
     source: &mut S,
     teller: &mut T,
     text: &mut Vec<u8>,
@@ -102,9 +104,8 @@ pub(crate) fn tell_log<S: Source, T: Teller, O: Sink>(
     requires life { life_of life.old ≡ unstarted }
     requires counted { T.counted teller.old ≡ 0 }
     requires none { text.old.items ≡ [] }
-    ensures closes { is_broken result ≡ false
-        → Closes (S.left source.old) (S.left source.new) (O.taken out.old) (O.taken out.new)
-        script.now
+    ensures halts { Halts (is_broken result) (S.left source.old) (S.left source.new)
+        (O.taken out.old) (O.taken out.new) (beside script.now answers.now)
         (T.rest teller.old) result (T.rest teller.new) (life_of life.new) text.new.items }
     ensures later { (S.faults source.old ≤ S.faults source.new) ×
         (O.faults out.old ≤ O.faults out.new) }
@@ -117,7 +118,16 @@ pub(crate) fn tell_log<S: Source, T: Teller, O: Sink>(
 {
     let mut reader = LogReader::new();
     for n in 0..MOST_LINES {
-        match next(life, &mut reader, script, source, teller, text, out) {
+        match next(
+            life,
+            &mut reader,
+            script,
+            answers,
+            source,
+            teller,
+            text,
+            out,
+        ) {
             Ok(()) => {}
             Err(closing) => return closing,
         }

@@ -35,7 +35,7 @@ fn put_bytes(bytes: &[u8], text: &mut Vec<u8>) -> Result<(), NoMemory>
 }
 
 /// Writes a line as the page's data has it.
-fn put_line(line: &[u8], text: &mut Vec<u8>) -> Result<(), NoMemory>
+pub fn put_line(line: &[u8], text: &mut Vec<u8>) -> Result<(), NoMemory>
     ensures { OnOk result (text.new.items ≡ text.old.items ++ shown_line line.now) }
 {
     put_bytes(front(line), text)?;

@@ -1,7 +1,8 @@
 pub mod Worded
 pub mod Paged
+pub mod Following
 pub mod Summed
 pub mod Exactness
 pub use Paged.{page_taken}
 pub use Summed.{few_none, sum_ended, sum_none, sum_taken}
-pub use Exactness.{file_lines, said_is, said_page, said_sums, told_as}
+pub use Exactness.{file_bytes, file_lines, good_map, good_refused, good_told, said_is, said_page, said_sums, told_as}

@@ -69,6 +69,10 @@ files_beside count =
     else if count == 2 then Some files.Both
     else None
 
+-- those of a page
+abbrev pub page_files : ℕ → Option Files
+page_files count = if count == 3 then Some files.Observed else files_beside count
+
 -- a form without values
 abbrev pub alone : Form → ℕ → Option Form
 alone f count = if count == 0 then Some f else None
@@ -100,7 +104,7 @@ abbrev pub form_in : Text → List Text → Option Form
 form_in name values =
     let first : Text = word_at values 0 in
     let count : ℕ = length values in
-    if bytes_eq name (codes "html") then option_map form.Html (files_beside count)
+    if bytes_eq name (codes "html") then option_map form.Html (page_files count)
     else if bytes_eq name (codes "tell") then option_map form.Tell (files_beside count)
     else if bytes_eq name (codes "events") then option_map form.Events (files_beside count)
     else if bytes_eq name (codes "counts") then counts_with first count
@@ -138,8 +142,15 @@ abbrev pub has_script : Files → Bool
 has_script files.None = false
 has_script files.Script = true
 has_script files.Both = true
+has_script files.Observed = true
 
 abbrev pub has_answers : Files → Bool
 has_answers files.None = false
 has_answers files.Script = false
 has_answers files.Both = true
+has_answers files.Observed = true
+
+-- and the third
+abbrev pub has_observations : Files → Bool
+has_observations files.Observed = true
+has_observations _ = false

@@ -1,38 +1,52 @@
 -- What each form says of a log.
 -- Profile, "What a log shows".
-use Rattle.std.specs.Prelude.{◌≡◌, ◌⊎◌, ℕ, Bool, true, false, List, [], ◌∷◌, ◌++◌, Option, Some}
+use Rattle.std.specs.Prelude.{◌≡◌, ◌⊎◌, ℕ, ◌+◌, Bool, true, false, List, [], ◌∷◌, ◌++◌, Option, Some}
 use Rattle.std.specs.Prelude.{None, codes}
 use Rattle.mm_types.specs.{Text, Rose, Move}
 use Rattle.mm_move_classes.specs.{log_data}
 use Rattle.mm_log_check.specs.{Shows, IsRefusedLog}
-use Rattle.mm_log_walk.specs.{lines_of, total_of, shown_file, answer_file, Said, Sought, Why, no_why}
+use Rattle.mm_log_walk.specs.{lines_of, total_of, shown_file, shown_line, answer_file, Said, Sought, Why, no_why}
 use Rattle.mm_log_walk.specs.declared.seeking.Sought.TheVariants as sought
 use Rattle.mm_sentences.specs.{why_text}
 use Rattle.mm_reports.specs.{counts_rows, fault_rows, frame_history, key_history, state_rows, use_rows}
 use Rattle.mm_reports.specs.declared.styles.Style.TheVariants as style
 use Rattle.mm_transcripts.specs.{transcript}
 use Rattle.mm_events.specs.{events}
+use Rattle.mm_show.specs.Forms.{word_at}
 use Rattle.mm_show.specs.Words.{class_rows}
 use Rattle.mm_show.specs.Sums.{sums_text}
 use Rattle.mm_show.specs.declared.forms.Form.{Form}
 use Rattle.mm_show.specs.declared.forms.Form.TheVariants as form
 
--- the fixed texts of a page
+-- the fixed texts of a page, the name of the script's file, and the packed observations
 pub record PageOf : Type 0 where
   pub up_to_classes : Text
   pub up_to_moves : Text
   pub up_to_script : Text
   pub up_to_answers : Text
+  pub up_to_name : Text
+  pub up_to_observations : Text
   pub up_to_end : Text
+  pub name : Text
+  pub observations : Text
 
 -- what stands in front of the moves, and behind them
 abbrev pub front_text : PageOf → Text
 front_text p = p.up_to_classes ++ (class_rows ++ p.up_to_moves)
 
+-- of a script that is named
+abbrev pub name_row : Option (List Text) → Text → Text
+name_row None name = []
+name_row (Some script) name = shown_line name
+
+abbrev pub script_text : PageOf → Option (List Text) → Option (List Text) → Text
+script_text p script answers =
+    p.up_to_script ++ (shown_file script ++ (p.up_to_answers ++ (answer_file answers
+    ++ (p.up_to_name ++ name_row script p.name))))
+
 abbrev pub behind_text : PageOf → Option (List Text) → Option (List Text) → Text
 behind_text p script answers =
-    p.up_to_script ++ (shown_file script ++ (p.up_to_answers ++ (answer_file answers
-    ++ p.up_to_end)))
+    script_text p script answers ++ (p.up_to_observations ++ (p.observations ++ p.up_to_end))
 
 abbrev pub whole_page_text : PageOf → Option (List Text) → Option (List Text) → List Move → Text
 whole_page_text p script answers moves =
@@ -93,8 +107,15 @@ abbrev pub IsUnread : Text → Option Text → Option Text → ℕ → Type 0
 IsUnread name took took' result =
     Shows took took' (unread_text name) 4 result ⊎ IsRefusedLog took took' result
 
+-- one of the files that the words name was not read, of which the first stands at this place
+abbrev pub LacksFile : ℕ → List Text → Option Text → Option Text → ℕ → Type 0
+LacksFile first words took took' result =
+    IsUnread (word_at words first) took took' result
+    ⊎ (IsUnread (word_at words (first + 1)) took took' result
+    ⊎ IsUnread (word_at words (first + 2)) took took' result)
+
 abbrev pub usage_text : Text
 usage_text =
-    codes "usage: mmshow html [SCRIPT [ANSWERS]] | tell [SCRIPT [ANSWERS]] "
+    codes "usage: mmshow html [SCRIPT [ANSWERS [OBSERVATIONS]]] | tell [SCRIPT [ANSWERS]] "
     ++ (codes "| events [SCRIPT [ANSWERS]] | counts [LINE] | counts csv [SCRIPT [ANSWERS]] | state LINE "
     ++ (codes "| frame N | key KEY | faults [csv] | sums" ++ 10 ∷ []))

@@ -2,7 +2,7 @@ ghost use Rattle.std.specs.Prelude.{◌≡◌, map, option_map, string_bytes, If
 ghost use Rattle.mm_text.specs.{number_of};
 ghost use Rattle.mm_arguments.specs.{texts};
 ghost use Rattle.mm_show.specs.declared.forms.Form.TheVariants as form;
-ghost use Rattle.mm_show.specs.Forms.{word_at, files_beside, alone, form_in, form_of};
+ghost use Rattle.mm_show.specs.Forms.{word_at, files_beside, page_files, alone, form_in, form_of};
 ghost use Rattle.mm_show.specs.Forms.{is_csv, with_one, counts_with, faults_with, line_asked_for};
 ghost use Rattle.mm_show.specs.Forms.{key_of};
 
@@ -50,6 +50,8 @@ pub enum Files {
     Script,
     /// The script, and its answers.
     Both,
+    /// The script, its answers, and observations of them.
+    Observed,
 }
 
 /// A word by its place; the empty text where there is none.
@@ -87,10 +89,21 @@ fn files_beside(count: usize) -> Option<Files>
     }
 }
 
-fn html_form(count: usize) -> Option<Form>
-    ensures { result ≡ option_map form.Html (files_beside count) }
+/// The files that so many values of a page name.
+fn page_files(count: usize) -> Option<Files>
+    ensures { result ≡ page_files count }
 {
-    match files_beside(count) {
+    if count == 3 {
+        Some(Files::Observed)
+    } else {
+        files_beside(count)
+    }
+}
+
+fn html_form(count: usize) -> Option<Form>
+    ensures { result ≡ option_map form.Html (page_files count) }
+{
+    match page_files(count) {
         Some(files) => Some(Form::Html(files)),
         None => None,
     }
@@ -245,7 +258,7 @@ pub(crate) fn asked(alloc: Global, words: &[String]) -> Result<Option<Form>, NoM
     ensures { IfOk result (λ r. r ≡ form_of (map string_bytes words.now)) }
 {
     let forms = [
-        words_form("html", 0, 2),
+        words_form("html", 0, 3),
         words_form("tell", 0, 2),
         words_form("events", 0, 2),
         words_form("counts", 0, 3),

@@ -4,6 +4,7 @@
 mod data;
 mod forms;
 mod keys;
+mod observed;
 mod pages;
 mod sums;
 mod top;

@@ -2,18 +2,22 @@ ghost use Rattle.std.specs.Prelude.{◌≡◌, ◌≢◌, ◌≤◌, ◌⊎◌, 
 ghost use Rattle.std.specs.Prelude.{Some, map, option_map, string_bytes, None};
 ghost use Rattle.mm_types.specs.{Rose};
 ghost use Rattle.mm_log_check.specs.{IsFaultStatus, Shows, IsRefusedLog};
-ghost use Rattle.mm_log_walk.specs.{Answers, SaysExactly, total_of};
-ghost use Rattle.mm_show.specs.{Form, form_of, word_at, files_of, has_script, has_answers, form_said, form_sought, form_why, FileIs, FileFailed};
-ghost use Rattle.mm_show.specs.{unread_text, files_at, IsUnread, usage_text, whole_page};
+ghost use Rattle.mm_log_walk.specs.{Answers, SaysExactly, beside, total_of};
+ghost use Rattle.mm_show.specs.{Form, form_of, word_at, files_of, has_script, has_answers, has_observations, form_said, form_sought, form_why, FileIs, FileFailed};
+ghost use Rattle.mm_show.specs.{unread_text, files_at, IsUnread, LacksFile, usage_text, whole_page};
+ghost use Rattle.mm_show.specs.{bad_row_text, FileHas, IfGood, IsRefusedRow, observed, page_of};
 
 use crate::forms::{Files, Form, asked, word_at};
-use crate::pages::{PageTexts, page_teller};
+use crate::observed::observed;
+use crate::pages::{Named, PageTexts, page_teller};
 use crate::sums::SumTeller;
 use mm_events::EventTeller;
 use mm_io::{Sink, Source};
 use mm_log_check::write_text;
-use mm_log_walk::{FileFault, Lines, Sought, answered, named_lines};
+use mm_log_walk::{FileFault, Lines, Sought, answered, named_bytes, named_lines};
+use mm_observations::PackFault;
 use mm_reports::{CountsTeller, FaultTeller, HistoryTeller, StateTeller, Style, UseTeller};
+use mm_text::{LineBuf, put_decimal};
 use mm_transcripts::TranscriptTeller;
 use mm_types::NoMemory;
 use std::alloc::Global;
@@ -31,7 +35,8 @@ fn put_named(words: &[u8], name: &[u8], text: &mut Vec<u8>) -> Result<(), NoMemo
 }
 
 /// What is written where the words are no form.
-const USAGE: &[u8] = b"usage: mmshow html [SCRIPT [ANSWERS]] | tell [SCRIPT [ANSWERS]] \
+const USAGE: &[u8] =
+    b"usage: mmshow html [SCRIPT [ANSWERS [OBSERVATIONS]]] | tell [SCRIPT [ANSWERS]] \
     | events [SCRIPT [ANSWERS]] | counts [LINE] | counts csv [SCRIPT [ANSWERS]] | state LINE \
     | frame N | key KEY | faults [csv] | sums\n";
 
@@ -51,11 +56,39 @@ fn unread<O: Sink>(alloc: Global, name: &[u8], out: &mut O) -> u8
     ensures out_fault { result ≡ 5 → Rose (O.faults out.old) (O.faults out.new) }
     ensures out_same { result ≢ 5 → O.faults out.new ≡ O.faults out.old }
     ensures gave { result ≢ 1 → result ≢ 5 → O.given out.new ≡ O.taken out.new }
-    ensures fault { IsFaultStatus result }
 {
     let mut text = Vec::new(alloc);
     match put_unread(name, &mut text) {
         Ok(()) => write_text(out, text.as_slice(), 4),
+        Err(NoMemory) => NO_MEMORY,
+    }
+}
+
+/// Writes the number of a row of observations that is not good.
+#[tactic(auto, using(mm_text::proofs::DigitCounts::joined))]
+fn put_bad_row(row: u64, text: &mut Vec<u8>) -> Result<(), NoMemory>
+    ensures { OnOk result (text.new.items ≡ text.old.items ++ bad_row_text row) }
+{
+    let mut line = LineBuf::new();
+    line.push_slice(b"observation line ");
+    put_decimal(&mut line, row);
+    line.push(b'\n');
+    text.extend_from_slice(line.as_slice())?;
+    Ok(())
+}
+
+/// Writes which row of observations is not good. Answers the status.
+fn refused<O: Sink>(alloc: Global, row: u64, out: &mut O) -> u8
+    ensures says { IsRefusedRow row (O.taken out.old) (O.taken out.new) result }
+    ensures later { O.faults out.old ≤ O.faults out.new }
+    ensures out_fault { result ≡ 5 → Rose (O.faults out.old) (O.faults out.new) }
+    ensures out_same { result ≢ 5 → O.faults out.new ≡ O.faults out.old }
+    ensures gave { result ≢ 1 → result ≢ 5 → O.given out.new ≡ O.taken out.new }
+    ensures fault { result ≢ 4 }
+{
+    let mut text = Vec::new(alloc);
+    match put_bad_row(row, &mut text) {
+        Ok(()) => write_text(out, text.as_slice(), 6),
         Err(NoMemory) => NO_MEMORY,
     }
 }
@@ -79,12 +112,13 @@ fn shown<S: Source, O: Sink>(
     script: &Option<Lines>,
     answers: &Option<Lines>,
     page: &PageTexts<'_>,
+    named: &Named<'_>,
     log: &mut S,
     out: &mut O,
 ) -> u8
     ensures answers { Answers (S.left log.old) (S.left log.new) (O.taken out.old) (O.taken out.new)
-        script.now (form_sought form) (form_said form (whole_page page.now) script.now answers.now) (form_why form)
-        result }
+        (beside script.now answers.now) (form_sought form)
+        (form_said form (page_of page.now named.now) script.now answers.now) (form_why form) result }
     ensures later { (S.faults log.old ≤ S.faults log.new) × (O.faults out.old ≤ O.faults out.new) }
     ensures read_fault { result ≡ 4 → Rose (S.faults log.old) (S.faults log.new) }
     ensures out_fault { result ≡ 5 → Rose (O.faults out.old) (O.faults out.new) }
@@ -94,49 +128,49 @@ fn shown<S: Source, O: Sink>(
 {
     let sought = form_sought(form);
     match form {
-        Form::Html(_) => match page_teller(alloc, page, script, answers) {
-            Ok(mut teller) => answered(alloc, script, sought, log, &mut teller, out),
+        Form::Html(_) => match page_teller(alloc, page, named, script, answers) {
+            Ok(mut teller) => answered(alloc, script, answers, sought, log, &mut teller, out),
             Err(NoMemory) => NO_MEMORY,
         },
         Form::Tell(_) => {
             let mut teller = TranscriptTeller::new(alloc, script, answers);
-            answered(alloc, script, sought, log, &mut teller, out)
+            answered(alloc, script, answers, sought, log, &mut teller, out)
         }
         Form::Events(_) => {
             let mut teller = EventTeller::new(alloc, script, answers);
-            answered(alloc, script, sought, log, &mut teller, out)
+            answered(alloc, script, answers, sought, log, &mut teller, out)
         }
         Form::Counts => {
             let mut teller = CountsTeller::new(alloc, Style::Columns, &None, &None);
-            answered(alloc, script, sought, log, &mut teller, out)
+            answered(alloc, script, answers, sought, log, &mut teller, out)
         }
         Form::CountsCsv(_) => {
             let mut teller = CountsTeller::new(alloc, Style::Csv, script, answers);
-            answered(alloc, script, sought, log, &mut teller, out)
+            answered(alloc, script, answers, sought, log, &mut teller, out)
         }
         Form::CountsAt(line) => {
             let mut teller = UseTeller::new(alloc, line);
-            answered(alloc, script, sought, log, &mut teller, out)
+            answered(alloc, script, answers, sought, log, &mut teller, out)
         }
         Form::StateAt(line) => {
             let mut teller = StateTeller::new(alloc, line);
-            answered(alloc, script, sought, log, &mut teller, out)
+            answered(alloc, script, answers, sought, log, &mut teller, out)
         }
         Form::FrameAt(frame) => {
             let mut teller = HistoryTeller::of_frame(alloc, frame);
-            answered(alloc, script, sought, log, &mut teller, out)
+            answered(alloc, script, answers, sought, log, &mut teller, out)
         }
         Form::KeyAt(key) => {
             let mut teller = HistoryTeller::of_key(alloc, key);
-            answered(alloc, script, sought, log, &mut teller, out)
+            answered(alloc, script, answers, sought, log, &mut teller, out)
         }
         Form::Faults(style) => {
             let mut teller = FaultTeller::new(alloc, style);
-            answered(alloc, script, sought, log, &mut teller, out)
+            answered(alloc, script, answers, sought, log, &mut teller, out)
         }
         Form::Sums => {
             let mut teller = SumTeller::new(alloc);
-            answered(alloc, script, sought, log, &mut teller, out)
+            answered(alloc, script, answers, sought, log, &mut teller, out)
         }
     }
 }
@@ -170,6 +204,7 @@ fn has_script(files: Files) -> bool
         Files::None => false,
         Files::Script => true,
         Files::Both => true,
+        Files::Observed => true,
     }
 }
 
@@ -180,7 +215,68 @@ fn has_answers(files: Files) -> bool
         Files::None => false,
         Files::Script => false,
         Files::Both => true,
+        Files::Observed => true,
     }
+}
+
+fn has_observations(files: Files) -> bool
+    ensures { result ≡ has_observations files }
+{
+    match files {
+        Files::Observed => true,
+        _ => false,
+    }
+}
+
+/// Shows a log by a form whose script and answers were read, with the observations that it names.
+fn show_beside<S: Source, F: Source, O: Sink>(
+    alloc: Global,
+    form: Form,
+    words: &[String],
+    log: &mut S,
+    script: &Option<Lines>,
+    answers: &Option<Lines>,
+    observations: &mut Option<F>,
+    page: &PageTexts<'_>,
+    out: &mut O,
+) -> u8
+    ensures exact { (o : Option (List ℕ))
+        → FileHas (has_observations (files_of form)) (option_map F.left observations.old) o
+        → IfGood (observed script.now answers.now o) (O.taken out.old) (O.taken out.new) result
+        (λ packed. Answers (S.left log.old) (S.left log.new) (O.taken out.old) (O.taken out.new)
+        (beside script.now answers.now) (form_sought form)
+        (form_said form (whole_page page.now (word_at (map string_bytes words.now) 1) packed)
+        script.now answers.now) (form_why form) result)
+        ⊎ LacksFile (files_at form) (map string_bytes words.now) (O.taken out.old) (O.taken out.new)
+        result }
+    ensures no_observations { has_observations (files_of form) ≡ true → observations.old ≡ None
+        → LacksFile (files_at form) (map string_bytes words.now) (O.taken out.old) (O.taken out.new)
+        result }
+    ensures later { (S.faults log.old ≤ S.faults log.new) × (O.faults out.old ≤ O.faults out.new) }
+    ensures read_fault { result ≡ 4 → Rose (S.faults log.old) (S.faults log.new)
+        ⊎ FileFailed F.faults (has_observations (files_of form)) observations.old
+        observations.new }
+    ensures out_fault { result ≡ 5 → Rose (O.faults out.old) (O.faults out.new) }
+    ensures source_same { (IsFaultStatus result → ⊥) → S.faults log.new ≡ S.faults log.old }
+    ensures out_same { result ≢ 5 → O.faults out.new ≡ O.faults out.old }
+    ensures gave { result ≢ 1 → result ≢ 5 → O.given out.new ≡ O.taken out.new }
+{
+    let is_named = has_observations(files_of(form));
+    let bytes = match named_bytes(alloc, is_named, observations) {
+        Ok(bytes) => bytes,
+        Err(FileFault::Failed) => return unread(alloc, word_at(words, files_at(form) + 2), out),
+        Err(FileFault::NoMemory) => return NO_MEMORY,
+    };
+    let packed = match observed(alloc, script, answers, &bytes) {
+        Ok(packed) => packed,
+        Err(PackFault::Row(row)) => return refused(alloc, row, out),
+        Err(PackFault::NoMemory) => return NO_MEMORY,
+    };
+    let named = Named {
+        name: word_at(words, 1),
+        observations: packed.as_slice(),
+    };
+    shown(alloc, form, script, answers, page, &named, log, out)
 }
 
 /// Shows a log by a form, with the files that it names.
@@ -191,26 +287,37 @@ fn show_form<S: Source, F: Source, O: Sink>(
     log: &mut S,
     script: &mut Option<F>,
     answers: &mut Option<F>,
+    observations: &mut Option<F>,
     page: &PageTexts<'_>,
     out: &mut O,
 ) -> u8
-    ensures exact { (s a : Option (List (List ℕ)))
+    ensures exact { (s a : Option (List (List ℕ))) (o : Option (List ℕ))
         → FileIs (has_script (files_of form)) (option_map F.left script.old) s
         → FileIs (has_answers (files_of form)) (option_map F.left answers.old) a
-        → Answers (S.left log.old) (S.left log.new) (O.taken out.old) (O.taken out.new) s
-        (form_sought form) (form_said form (whole_page page.now) s a) (form_why form) result }
+        → FileHas (has_observations (files_of form)) (option_map F.left observations.old) o
+        → IfGood (observed s a o) (O.taken out.old) (O.taken out.new) result (λ packed.
+        Answers (S.left log.old) (S.left log.new) (O.taken out.old) (O.taken out.new) (beside s a)
+        (form_sought form)
+        (form_said form (whole_page page.now (word_at (map string_bytes words.now) 1) packed) s a)
+        (form_why form) result)
+        ⊎ LacksFile (files_at form) (map string_bytes words.now) (O.taken out.old) (O.taken out.new) result }
     ensures no_script { has_script (files_of form) ≡ true → script.old ≡ None
         → IsUnread (word_at (map string_bytes words.now) (files_at form)) (O.taken out.old) (O.taken out.new)
         result }
     ensures no_answers { (s : Option (List (List ℕ)))
         → FileIs (has_script (files_of form)) (option_map F.left script.old) s
         → has_answers (files_of form) ≡ true → answers.old ≡ None
-        → IsUnread (word_at (map string_bytes words.now) (files_at form + 1)) (O.taken out.old) (O.taken out.new)
-        result ⊎ IsFaultStatus result }
+        → LacksFile (files_at form) (map string_bytes words.now) (O.taken out.old) (O.taken out.new)
+        result }
+    ensures no_observations { has_observations (files_of form) ≡ true → observations.old ≡ None
+        → LacksFile (files_at form) (map string_bytes words.now) (O.taken out.old) (O.taken out.new)
+        result }
     ensures later { (S.faults log.old ≤ S.faults log.new) × (O.faults out.old ≤ O.faults out.new) }
     ensures read_fault { result ≡ 4 → Rose (S.faults log.old) (S.faults log.new)
         ⊎ (FileFailed F.faults (has_script (files_of form)) script.old script.new
-        ⊎ FileFailed F.faults (has_answers (files_of form)) answers.old answers.new) }
+        ⊎ (FileFailed F.faults (has_answers (files_of form)) answers.old answers.new
+        ⊎ FileFailed F.faults (has_observations (files_of form)) observations.old
+        observations.new)) }
     ensures out_fault { result ≡ 5 → Rose (O.faults out.old) (O.faults out.new) }
     ensures source_same { (IsFaultStatus result → ⊥) → S.faults log.new ≡ S.faults log.old }
     ensures out_same { result ≢ 5 → O.faults out.new ≡ O.faults out.old }
@@ -227,30 +334,47 @@ fn show_form<S: Source, F: Source, O: Sink>(
         Err(FileFault::Failed) => return unread(alloc, word_at(words, files_at(form) + 1), out),
         Err(FileFault::NoMemory) => return NO_MEMORY,
     };
-    shown(alloc, form, &script, &answers, page, log, out)
+    show_beside(
+        alloc,
+        form,
+        words,
+        log,
+        &script,
+        &answers,
+        observations,
+        page,
+        out,
+    )
 }
 
 /// Shows the log that the source gives, writes the text to `out` and flushes it. The words are the
-/// name of a form and its values. Where these name a script and its answers, `script` and `answers`
-/// are those files, none where a file could not be opened; other forms read neither. The status is
-/// 0 where the log replays, fits the script and has the line or page frame that is asked for, 1 where memory was refused, 2 where the words are
-/// no form, 3 where a line is no legal move, 4 where the log or a file failed, 5 where the sink
-/// failed, 6 where the script does not fit or the log has no such line or page frame, 8 where the log has more than 1,000,000,000,000 bytes.
+/// name of a form and its values. Where these name a script, its answers and observations, `script`,
+/// `answers` and `observations` are those files, none where a file could not be opened; other forms
+/// read none. The status is 0 where the log replays, fits the script and its answers and has the line
+/// or page frame that is asked for, 1 where memory was refused, 2 where the words are no form, 3
+/// where a line is no legal move, 4 where the log or a file failed, 5 where the sink failed, 6 where
+/// the script or the answers do not fit, a row of the observations is not good or the log has no such
+/// line or page frame, 8 where the log has more than 1,000,000,000,000 bytes.
 pub fn run_show<S: Source, F: Source, O: Sink>(
     alloc: Global,
     words: &[String],
     log: &mut S,
     script: &mut Option<F>,
     answers: &mut Option<F>,
+    observations: &mut Option<F>,
     page: &PageTexts<'_>,
     out: &mut O,
 ) -> u8
-    ensures exact { (f : Form) (s a : Option (List (List ℕ)))
+    ensures exact { (f : Form) (s a : Option (List (List ℕ))) (o : Option (List ℕ))
         → form_of (map string_bytes words.now) ≡ Some f
         → FileIs (has_script (files_of f)) (option_map F.left script.old) s
         → FileIs (has_answers (files_of f)) (option_map F.left answers.old) a
-        → SaysExactly s (form_sought f) (form_said f (whole_page page.now) s a) (form_why f) (S.left log.old)
-        (O.taken out.old) (O.taken out.new) result }
+        → FileHas (has_observations (files_of f)) (option_map F.left observations.old) o
+        → IfGood (observed s a o) (O.taken out.old) (O.taken out.new) result (λ packed.
+        SaysExactly (beside s a) (form_sought f)
+        (form_said f (whole_page page.now (word_at (map string_bytes words.now) 1) packed) s a)
+        (form_why f) (S.left log.old) (O.taken out.old) (O.taken out.new) result)
+        ⊎ LacksFile (files_at f) (map string_bytes words.now) (O.taken out.old) (O.taken out.new) result }
     ensures no_script { (f : Form) → form_of (map string_bytes words.now) ≡ Some f
         → has_script (files_of f) ≡ true → script.old ≡ None
         → IsUnread (word_at (map string_bytes words.now) (files_at f)) (O.taken out.old) (O.taken out.new)
@@ -259,9 +383,12 @@ pub fn run_show<S: Source, F: Source, O: Sink>(
         → form_of (map string_bytes words.now) ≡ Some f
         → FileIs (has_script (files_of f)) (option_map F.left script.old) s
         → has_answers (files_of f) ≡ true → answers.old ≡ None
-        → IsUnread (word_at (map string_bytes words.now) (files_at f + 1)) (O.taken out.old) (O.taken out.new)
-        result
-        ⊎ IsFaultStatus result }
+        → LacksFile (files_at f) (map string_bytes words.now) (O.taken out.old) (O.taken out.new)
+        result }
+    ensures no_observations { (f : Form) → form_of (map string_bytes words.now) ≡ Some f
+        → has_observations (files_of f) ≡ true → observations.old ≡ None
+        → LacksFile (files_at f) (map string_bytes words.now) (O.taken out.old) (O.taken out.new)
+        result }
     ensures usage { form_of (map string_bytes words.now) ≡ None
         → Shows (O.taken out.old) (O.taken out.new) usage_text 2 result
         ⊎ IsRefusedLog (O.taken out.old) (O.taken out.new) result }
@@ -269,7 +396,9 @@ pub fn run_show<S: Source, F: Source, O: Sink>(
     ensures read_fault { (f : Form) → form_of (map string_bytes words.now) ≡ Some f → result ≡ 4
         → Rose (S.faults log.old) (S.faults log.new)
         ⊎ (FileFailed F.faults (has_script (files_of f)) script.old script.new
-        ⊎ FileFailed F.faults (has_answers (files_of f)) answers.old answers.new) }
+        ⊎ (FileFailed F.faults (has_answers (files_of f)) answers.old answers.new
+        ⊎ FileFailed F.faults (has_observations (files_of f)) observations.old
+        observations.new)) }
     ensures out_fault { result ≡ 5 → Rose (O.faults out.old) (O.faults out.new) }
     ensures later { (S.faults log.old ≤ S.faults log.new) × (O.faults out.old ≤ O.faults out.new) }
 
@@ -280,7 +409,17 @@ pub fn run_show<S: Source, F: Source, O: Sink>(
     ensures gave { result ≢ 1 → result ≢ 5 → O.given out.new ≡ O.taken out.new }
 {
     match asked(alloc, words) {
-        Ok(Some(form)) => show_form(alloc, form, words, log, script, answers, page, out),
+        Ok(Some(form)) => show_form(
+            alloc,
+            form,
+            words,
+            log,
+            script,
+            answers,
+            observations,
+            page,
+            out,
+        ),
         Ok(None) => write_text(out, USAGE, 2),
         Err(NoMemory) => NO_MEMORY,
     }

@@ -3,7 +3,10 @@
 
 use clap::{Arg, ArgAction, Command};
 use mm_help::{asks, described, tell};
-use mm_html::{UP_TO_ANSWERS, UP_TO_CLASSES, UP_TO_END, UP_TO_MOVES, UP_TO_SCRIPT};
+use mm_html::{
+    UP_TO_ANSWERS, UP_TO_CLASSES, UP_TO_END, UP_TO_MOVES, UP_TO_NAME, UP_TO_OBSERVATIONS,
+    UP_TO_SCRIPT,
+};
 use mm_io::{StdSink, StdSource, buffered, exit_code, words};
 use mm_show::{PageTexts, run_show};
 use mm_types::NoMemory;
@@ -19,12 +22,23 @@ const ABOUT: &str = "Shows a log of page frames.";
 
 const AFTER: &str = "\
 The log is read from standard input. SCRIPT and ANSWERS are files, whose lines stand beside the
-moves:
+moves; of OBSERVATIONS, as melzudek observe writes them, a page has address spaces and the charge:
   mmshow tell examples/first.mm examples/first.out < first.log
 
 Statuses: 0 shown; 1 memory was refused; 2 the words are no form; 3 a line of the log is no legal
 move; 4 the log or a file could not be read; 5 the text could not be written; 6 the script does
 not fit, or the log has no such line or page frame; 8 the log is too long.";
+
+/// The form that has at most three files behind it.
+fn with_observations<'a>(
+    alloc: Global,
+    name: &'a str,
+    about: &'a str,
+) -> Result<Command<'a>, NoMemory> {
+    let observations = Arg::new(alloc, "OBSERVATIONS").help("The file of its observations");
+    let command = with_files(alloc, name, about)?.arg(observations)?;
+    Ok(command)
+}
 
 /// A form that has at most two files behind it.
 fn with_files<'a>(alloc: Global, name: &'a str, about: &'a str) -> Result<Command<'a>, NoMemory> {
@@ -73,7 +87,7 @@ fn faults<'a>(alloc: Global) -> Result<Command<'a>, NoMemory> {
 
 /// The program's forms, as its help and its mistakes tell them.
 fn command<'a>(alloc: Global) -> Result<Command<'a>, NoMemory> {
-    let html = with_files(alloc, "html", "One page for a browser")?;
+    let html = with_observations(alloc, "html", "One page for a browser")?;
     let tells = with_files(alloc, "tell", "Each line, and in words what moved")?;
     let events = with_files(alloc, "events", "A row of csv for each move")?;
     let counts = counts(alloc)?;
@@ -139,12 +153,23 @@ fn named(
     }
 }
 
+/// Opens the folder of all files. Where a standard stream is closed it takes that one's number, so
+/// that no file does: what reads from it or writes to it fails.
+fn barred(rt: &HostRuntime) -> Option<File> {
+    match fs::open(rt, "/") {
+        Ok(folder) => Some(folder),
+        Err(_) => None,
+    }
+}
+
 fn texts() -> PageTexts<'static> {
     PageTexts {
         up_to_classes: UP_TO_CLASSES.as_bytes(),
         up_to_moves: UP_TO_MOVES.as_bytes(),
         up_to_script: UP_TO_SCRIPT.as_bytes(),
         up_to_answers: UP_TO_ANSWERS.as_bytes(),
+        up_to_name: UP_TO_NAME.as_bytes(),
+        up_to_observations: UP_TO_OBSERVATIONS.as_bytes(),
         up_to_end: UP_TO_END.as_bytes(),
     }
 }
@@ -163,9 +188,11 @@ fn show(rt: &HostRuntime) -> Result<u8, NoMemory> {
     if asks(&words) {
         return tell(rt, command(alloc)?, &words);
     }
+    let _streams = [barred(rt), barred(rt), barred(rt)];
     let first = files_at(&words);
     let mut script = named(rt, &words, first, 0);
     let mut answers = named(rt, &words, first, 1);
+    let mut observations = named(rt, &words, first, 2);
     let mut log = StdSource::new(rt.reader());
     let mut out = StdSink::new(buffered(alloc, io::writer(rt))?);
     let status = run_show(
@@ -174,6 +201,7 @@ fn show(rt: &HostRuntime) -> Result<u8, NoMemory> {
         &mut log,
         &mut script,
         &mut answers,
+        &mut observations,
         &texts(),
         &mut out,
     );

@@ -1,4 +1,4 @@
-use Rattle.std.proofs.Common.{◌≡◌, ◌<◌, ◌+◌, [], ◌∷◌, ◌++◌, length, length-append, arith, sym, ap, ◌∙◌, subst, inl, inr}
+use Rattle.std.proofs.Common.{◌≡◌, ◌<◌, ◌+◌, [], ◌∷◌, ◌++◌, length, length-append, arith, sym, ap, ◌∙◌, subst, inl}
 use Rattle.std.specs.Prelude.{codes}
 use Rattle.mm_types.specs.{Text}
 use Rattle.mm_log_check.specs.{Shows}
@@ -10,12 +10,6 @@ returns-in-Ok-clause-says g c =
     let name : Text = c.args.name.now in
     let text : c.put_unread.new.text.items ≡ unread_text name = c.in-Ok.ensures ∙ ap (λ xs. xs ++ unread_text name) c.new-text.ensures.items in
     inl (subst (λ (x : Text). Shows (g.O.Sink.taken c.args.out.now) (g.O.Sink.taken c.write_text.new.out) x 4 c.write_text.result) (c.as_slice.ensures.value ∙ text) c.write_text.ensures.shows)
-
-pub returns-in-Ok-clause-fault : goal.returns-in-Ok-clause-fault
-returns-in-Ok-clause-fault g c = elim c.write_text.ensures.shows [
-  | inl h ↦ inr (inl h.0)
-  | inr h ↦ inr (inr h.0)
-]
 
 pub returns-in-Ok-clause-gave : goal.returns-in-Ok-clause-gave
 returns-in-Ok-clause-gave g c = λ memory write.

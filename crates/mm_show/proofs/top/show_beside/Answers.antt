@@ -1,0 +1,28 @@
+use Rattle.std.proofs.Common.{◌≡◌, ◌∙◌, Bool, List, Option, ℕ, Ok, sym, ap, subst, option_map, inl}
+use Rattle.std.specs.Prelude.{map, string_bytes}
+use Rattle.mm_types.specs.{Text}
+use Rattle.mm_log_walk.specs.{Answers, beside}
+use Rattle.mm_show.specs.{files_of, has_observations, form_said, form_sought, form_why, FileHas, observed, page_of, whole_page, word_at}
+use Rattle.mm_show.proofs.{file_bytes, good_told, good_refused}
+use Rattle.mm_show.proofs.top.show_beside.Goals as goal
+
+pub returns-clause-exact : goal.returns-clause-exact
+returns-clause-exact g c = λ o fo.
+    let a = c.args in
+    let left = g.S.Source.left a.log.now in
+    let left' = g.S.Source.left c.shown.new.log in
+    let took = g.O.Sink.taken a.out.now in
+    let took' = g.O.Sink.taken c.shown.new.out in
+    let lo = option_map g.F.Source.left a.observations.now in
+    let script = a.script.now in
+    let answers = a.answers.now in
+    let status = c.shown.result in
+    let text = c.in-Ok-observed.packed.items in
+    let name = word_at (map string_bytes a.words.now) 1 in
+    let named : c.has_observations-is_named.result ≡ has_observations (files_of a.form) = c.has_observations-is_named.ensures ∙ ap has_observations c.files_of.ensures in
+    let e : option_map (λ b. b.items) c.in-Ok.bytes ≡ o = file_bytes (λ b. b.items) c.has_observations-is_named.result lo c.in-Ok.bytes o (subst (λ (b : Bool). FileHas b lo o) (sym named) fo) c.in-Ok.ensures.none c.in-Ok.ensures.bytes in
+    let good : observed script answers o ≡ Ok text = ap (λ (x : Option Text). observed script answers x) (sym e) ∙ c.in-Ok-observed.ensures in
+    inl (good_told (observed script answers o) text took took' status
+    (λ (packed : Text). Answers left left' took took' (beside script answers) (form_sought a.form) (form_said a.form (whole_page a.page.now name packed) script answers) (form_why a.form) status) good
+    (subst (λ (n : Text). Answers left left' took took' (beside script answers) (form_sought a.form) (form_said a.form (whole_page a.page.now n text) script answers) (form_why a.form) status) c.word_at.ensures
+    (subst (λ (t : Text). Answers left left' took took' (beside script answers) (form_sought a.form) (form_said a.form (whole_page a.page.now c.word_at.result.now t) script answers) (form_why a.form) status) c.as_slice.ensures.value c.shown.ensures.answers)))
