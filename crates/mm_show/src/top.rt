@@ -94,10 +94,24 @@ fn shown<S: Source, O: Sink>(
         }
         Form::Counts => answered(alloc, script, answers, log, &mut CountsTeller::new(), out),
         Form::CountsAt(line) => {
-            answered(alloc, script, answers, log, &mut UseTeller::new(alloc, line), out)
+            answered(
+                alloc,
+                script,
+                answers,
+                log,
+                &mut UseTeller::new(alloc, line),
+                out,
+            )
         }
         Form::StateAt(line) => {
-            answered(alloc, script, answers, log, &mut StateTeller::new(alloc, line), out)
+            answered(
+                alloc,
+                script,
+                answers,
+                log,
+                &mut StateTeller::new(alloc, line),
+                out,
+            )
         }
         Form::FrameAt(frame) => {
             answered(
@@ -119,7 +133,14 @@ fn shown<S: Source, O: Sink>(
                 out,
             )
         }
-        Form::Faults => answered(alloc, script, answers, log, &mut FaultTeller::new(alloc), out),
+        Form::Faults => answered(
+            alloc,
+            script,
+            answers,
+            log,
+            &mut FaultTeller::new(alloc),
+            out,
+        ),
         Form::Sums => answered(alloc, script, answers, log, &mut SumTeller::new(alloc), out),
     }
 }
