@@ -15,8 +15,8 @@ pub use Counted.{AreFew, of_class, of_kind}
 pub use SumRest.{sum_rest, sums_left}
 pub use Forms.{before, behind, files_of, form_of, has_answers, has_script, key_of, line_asked_for}
 pub use Forms.{page_at, pid_of, private_key, shared_key, word_at}
-pub use Showing.{FileFailed, FileIs, IsUnread, LacksFile, PageOf, form_said, form_why, page_said, sums_said}
-pub use Showing.{unread_text, usage_text, whole_page_text}
+pub use Showing.{FileFailed, FileIs, IsUnread, LacksFile, PageOf, form_said, form_why, page_said}
+pub use Showing.{sums_said, unread_text, usage_text, whole_page_text}
 pub use Texts.{whole_page}
 pub use declared.data.PageTeller.{PageTeller}
 pub use declared.forms.Form.{Form}

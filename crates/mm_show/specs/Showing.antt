@@ -7,8 +7,7 @@ use Rattle.mm_move_classes.specs.{log_data}
 use Rattle.mm_log_check.specs.{Shows, IsRefusedLog}
 use Rattle.mm_log_walk.specs.{lines_of, total_of, shown_file, answer_file, Said, Why, no_why}
 use Rattle.mm_sentences.specs.{why_text}
-use Rattle.mm_reports.specs.{counts_rows, fault_rows, frame_history, key_history, state_rows}
-use Rattle.mm_reports.specs.{use_rows}
+use Rattle.mm_reports.specs.{counts_rows, fault_rows, frame_history, key_history, state_rows, use_rows}
 use Rattle.mm_transcripts.specs.{transcript}
 use Rattle.mm_events.specs.{events}
 use Rattle.mm_show.specs.Forms.{word_at}

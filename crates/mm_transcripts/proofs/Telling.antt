@@ -5,9 +5,9 @@ use Rattle.mm_move_rules.specs.{FrameLife, unstarted, after_move}
 use Rattle.mm_move_classes.specs.{MarksOf, no_marks, marks_after, next_of, Class}
 use Rattle.mm_sentences.specs.declared.facts.Facts.{Facts}
 use Rattle.mm_sentences.specs.{facts_of}
-use Rattle.mm_transcripts.specs.{AgesOf, no_ages, Reason, told_row, first_then, first_behind, ending_text, ages_then, reason_then, rows_from, classed_row, rows_rest}
-use Rattle.mm_log_walk.specs.{Beside}
-use Rattle.mm_log_walk.specs.{pending, class_then, move_of, Pending}
+use Rattle.mm_transcripts.specs.{AgesOf, no_ages, Reason, told_row, first_then, first_behind, ending_text, ages_then, reason_then, rows_from}
+use Rattle.mm_transcripts.specs.{classed_row, rows_rest}
+use Rattle.mm_log_walk.specs.{Beside, pending, class_then, move_of, Pending}
 use Rattle.mm_log_walk.proofs.{class_known}
 
 module _ (b : Beside) (whole : Bool) (l : FrameLife) (v : MarksOf) (p : Option Pending) (f : Option Move) (x : Facts) (r : Option Reason) (a : AgesOf) (m : Move) where

@@ -17,7 +17,10 @@ pub mod Waiting
 pub mod Worked
 pub use Ages.{AgesOf, at_place, at_thread, no_ages, older, older_of}
 pub use Bits.{bit_row}
+pub use Ends.{cut_text, end_text, ending_text, line_is}
 pub use Failures.{code_name, failure_name, raise_name}
+pub use Folds.{adds_next, blocks_text, first_then, fold_row, fold_text, goes_on, is_next_block}
+pub use Folds.{is_next_key, keys_text}
 pub use Keeping.{AreTouchedBefore, age_by, age_in, one_age_more, same_thread}
 pub use Named.{failure_row}
 pub use Numbers.{has_name, union_text}
@@ -25,9 +28,6 @@ pub use Reasons.{age_words, process_words, words_if}
 pub use Remarks.{answer_remark, bracketed, event_remark, named_numbers, named_or, numbers_of}
 pub use Remarks.{remark_by, told_names, told_remark}
 unfoldable pub use Remarks.{remark_text}
-pub use Ends.{cut_text, end_text, ending_text, line_is}
-pub use Folds.{adds_next, first_then, fold_row, fold_text, goes_on, is_next_block, is_next_key}
-pub use Folds.{blocks_text, keys_text}
 pub use Rows.{answered_row, asked_row, class_sentence_row, folded_row, is_none_left, line_row}
 pub use Rows.{names_text, padded, printed, printed_byte, row_text, said_text, told_row, trimmed}
 pub use Shown.{ages_of}

@@ -1,6 +1,7 @@
 ghost use Rattle.std.specs.Prelude.{◌≡◌, ◌-◌, ◌++◌, OnOk, replicate, option_map};
 ghost use Rattle.mm_replay.specs.Standing.{life as life_of};
-ghost use Rattle.mm_transcripts.specs.{words_if, trimmed, printed, printed_byte, padded, answered_row, asked_row, said_text, names_text, line_row, class_sentence_row};
+ghost use Rattle.mm_transcripts.specs.{words_if, trimmed, printed, printed_byte, padded, answered_row, asked_row, said_text, names_text, line_row};
+ghost use Rattle.mm_transcripts.specs.{class_sentence_row};
 
 use crate::reasons::{Reason, put_reason};
 use crate::remarks::put_remark;

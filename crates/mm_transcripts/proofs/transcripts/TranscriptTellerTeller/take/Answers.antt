@@ -3,8 +3,7 @@ use Rattle.mm_move_rules.specs.{FrameLife}
 use Rattle.mm_replay.specs.Standing.{life}
 use Rattle.mm_move_classes.specs.{marks_of}
 use Rattle.mm_transcripts.specs.{ages_of, classed_row, first_behind, beside_of, TranscriptTeller}
-use Rattle.mm_log_walk.specs.{Beside}
-use Rattle.mm_log_walk.specs.{Classed}
+use Rattle.mm_log_walk.specs.{Beside, Classed}
 use Rattle.mm_transcripts.proofs.{row_taken}
 use Rattle.mm_transcripts.proofs.transcripts.TranscriptTellerTeller.take.Goals as goal
 
