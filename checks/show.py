@@ -241,6 +241,80 @@ def compare_faults(check: Check) -> None:
         check.same(what, check.run("mmshow", words, given)[:2], (status, said))
 
 
+def compare_answers(check: Check, room: str) -> None:
+    """Answers that are not a log's, runs that ended early, and bytes that no terminal is to get."""
+    script = read("examples/under-pressure.mm")
+    ended = check.run("mmsim", ["run"], script)
+    said = ended.out.splitlines(True)
+    other = check.run("mmsim", ["run"], read("examples/first.mm")).out
+    cases = [
+        ("one too few", said[:-1], len(said)),
+        ("none", [], 1),
+        ("one too many", said + [b"ok\n"], len(said) + 1),
+        ("one that is none", said[:4] + [b"pending read\n"] + said[5:], 5),
+        ("a number too few", [b"ok\n"] + said[1:], 1),
+        ("those of another run", other.splitlines(True), None),
+        (
+            "behind the end of a run",
+            said + [b"bad line %d column 1\n" % (len(said) + 1)] * 2,
+            len(said) + 2,
+        ),
+    ]
+    for what, answers, line in cases:
+        files = written(room, "answers", script, b"".join(answers))
+        for form in ("tell", "events", "html"):
+            got = check.run("mmshow", [form, *files], ended.err)
+            last = got.out.splitlines()[-1]
+            is_so = (
+                last.startswith(b"answer line ")
+                if line is None
+                else last == b"answer line %d" % line
+            )
+            check.holds(
+                f"answers, {what}: {form}", got.status == 6 and is_so, f"{got.status}, {last!r}"
+            )
+            if form != "html":
+                status, wanted = show.answer([form, *files], ended.err)
+                wrong = differing(got, (status, wanted.encode("latin-1")))
+                check.holds(f"answers, {what}: {form}", not wrong, wrong or "")
+    compare_ends(check, room)
+
+
+def compare_ends(check: Check, room: str) -> None:
+    """What is said of a run that ended early, with its answers and without them."""
+    begun = b"machine 8 8 1 0\nprocess 0 4\n"
+    cut = "line 3 was not reached: the run ended before it"
+    for what, line, answered, alone in [
+        ("no line", b"foo\n", "line 3 is no line: the run ended here", cut),
+        ("too long", b"f" * 257 + b"\n", "line 3 is too long: the run ended here", cut),
+        ("nothing", b"", None, None),
+        ("no line feed", b"age 1", "line 3 is no line: the run ended here", None),
+    ]:
+        ended = check.run("mmsim", ["run"], begun + line)
+        files = written(room, "ended", begun + line, ended.out)
+        for words, wanted in ((["tell", *files], answered), (["tell", files[0]], alone)):
+            got = check.run("mmshow", words, ended.err)
+            rows = got.out.decode().splitlines()
+            check.same(
+                f"an early end, {what}", (got.status, rows[2:]), (0, [wanted] if wanted else [])
+            )
+            check.same(
+                f"the reference of it, {what}", show.answer(words, ended.err), (0, got.out.decode())
+            )
+    shown = b"machine \x1b[31m8\xff\nprocess\t0\n"
+    files = written(room, "bytes", shown.replace(b"\t", b" \t"), b"ok 12\nok 1\n")
+    log = check.run("mmsim", ["run"], begun).err
+    got = check.run("mmshow", ["tell", *files], log)
+    check.holds(
+        "control bytes", b"machine ?[31m8?" in got.out and b"process ?0" in got.out, repr(got.out)
+    )
+    check.same(
+        "control bytes, the reference",
+        show.answer(["tell", *files], log),
+        (0, got.out.decode("latin-1")),
+    )
+
+
 def compare_ledgers(check: Check) -> None:
     """The second reader, on drawn logs: `counts`, the state after some lines, and `faults`."""
     for seed in LEDGERS[:: 10 if check.words.few else 1]:
@@ -271,6 +345,7 @@ def main() -> int:
                 for complaint in bad:
                     check.wrong("texts", complaint)
         compare_remarks(check, room)
+        compare_answers(check, room)
     compare_reasons(check)
     compare_faults(check)
     compare_ledgers(check)

@@ -1,8 +1,8 @@
 #!/usr/bin/env python3
 """What `mmshow` writes, in Python: the reference that its texts are compared with (checks/show, checks/page.py).
 
-    show.py tell [SCRIPT [ANSWERS]] < LOG           a transcript in words; --plain before `tell`: without what the script and the
-                                                    answers add to the words, as the page's own text has it
+    show.py tell [SCRIPT [ANSWERS]] < LOG           a transcript in words; --plain before `tell`: a row for each move, without what the
+                                                    script and the answers add to the words, as the page's own text has it
     show.py events [SCRIPT [ANSWERS]] < LOG         a row of csv for each move
     show.py counts [LINE] < LOG                     lists after each line; use counts after one line
     show.py counts csv [SCRIPT [ANSWERS]] < LOG     lists, working sets and the charge after each line, as csv
@@ -17,6 +17,7 @@
 It stands on life.py, an independent replay of a log.
 """
 import itertools
+import re
 import sys
 from collections import Counter, OrderedDict
 
@@ -77,6 +78,35 @@ FORMS = {  # first word of a script line: the kinds that its `at` may have
 FORMS.update((w, 'call') for w in ('file alloc protect query create createfile open close map flush age fail charge counts '
                                    'watch resetwatch stack').split())
 FORMS['probe'] = 'call'
+
+# what a line answers that is done, by its first word; the others answer `ok` alone
+HEX, NUM = '0x[0-9A-F]{8}', '[0-9]+'
+DONE = {word: form for words, form in [
+    ('machine process grow open', 'ok ' + NUM), ('alloc map probe protect', 'ok ' + HEX),
+    ('create createfile charge', f'ok {NUM} {NUM}'), ('query', 'ok' + 7 * (' ' + HEX)), ('counts', 'ok' + 8 * (' ' + NUM)),
+    ('stack', 'ok' + 3 * (' ' + HEX)), ('read', 'ok [0-9A-F]+'), ('begin resume', 'ok( [0-9A-F]+)?'),
+    ('watch', f'ok {NUM}( [0-9A-Fx ]+)?')] for word in words.split()}
+# and what else it may answer
+OTHERS = {word: ['error (2|5|6|87|183|487|1132|1455)'] for word in FORMS}
+for words, form in [
+        ('machine process grow resume io writer zeroer fail charge counts probe', None),
+        ('read write exec begin resume probe', 'raise 0x(80000001|C0000005|C0000006|C00000FD)'),
+        ('begin resume', 'pending (read|frame|full)'), ('resume io probe', 'none'), ('begin stack', 'busy'),
+        ('process file fail grow', 'full'), ('file flush io grow', 'fault')]:
+    for word in words.split():
+        OTHERS[word] = OTHERS[word] + [form] if form else []
+
+
+def can_answer(word, answer):
+    """Whether a line with this first word can have this answer."""
+    return any(re.fullmatch(form, answer) for form in [DONE.get(word, 'ok')] + OTHERS.get(word, []))
+
+
+def run_end(line, text):
+    """What a run that ended at this line wrote behind the answers says of the line; None where it is no such text."""
+    if re.match(f'bad line {line} column ', text):
+        return 'is no line'
+    return 'is too long' if text == f'too long line {line}' else None
 
 
 class Marks:
@@ -171,11 +201,30 @@ class Missing(Exception):
     """What a log that replays does not have."""
 
 
-def fits(script, m):
-    """Raises BadScript where the script has no line that the move `at` can stand for."""
+class BadAnswer(Exception):
+    pass
+
+
+def fits(script, answers, m):
+    """Raises BadScript where the script has no line that the move `at` can stand for, BadAnswer where that cannot be its answer."""
     n = m[1]
-    if script is not None and (n > len(script) or m[2][0] not in FORMS.get(script[n - 1].split(' ')[0], '').split()):
+    if script is None:
+        return
+    word = script[n - 1].split(' ')[0] if n <= len(script) else ''
+    if m[2][0] not in FORMS.get(word, '').split():
         raise BadScript(n)
+    if answers is not None and not (n <= len(answers) and can_answer(word, answers[n - 1])):
+        raise BadAnswer(n)
+
+
+def fits_end(answers, count):
+    """Raises BadAnswer where answers stand behind those of so many lines; what a run wrote that ended there is none."""
+    left = answers[count:] if answers is not None else []
+    first = count + 1
+    if left and run_end(first, left[0]):
+        left, first = left[1:], first + 1
+    if left:
+        raise BadAnswer(first)
 
 
 def moves_of(data):
@@ -313,8 +362,39 @@ def texts(names):
     return (out + [None, None])[:2]
 
 
+def printed(text):
+    """A line as a terminal shows it: control bytes, and those that are no ASCII, as `?`."""
+    return ''.join(c if ' ' <= c <= '~' else '?' for c in text)
+
+
+def fold_of(moves):
+    """Of moves by which pages come to be: what is said of all of them."""
+    first, last = moves[0], moves[-1]
+    keys = f'pages {spell_key(first[1])} to {spell_key(last[1])} come to be, '
+    return 'file %stheir bytes in file blocks %d to %d' % (keys, first[2], last[2]) if last[2] is not None else \
+        keys + 'demand-zero: no frame yet'
+
+
+def is_next(m, after):
+    """Whether the page of the second `add` stands right behind that of the first, and its block behind that block."""
+    (*space, page), (*other, behind) = m[1], after[1]
+    blocks = (m[2], after[2])
+    return space == other and page + 1 == behind and (blocks == (None, None) or None not in blocks and blocks[0] + 1 == blocks[1])
+
+
+def end_of_run(script, answers, count):
+    """What is said behind a log of so many lines, where the run ended before the end of the script."""
+    line = count + 1
+    what = run_end(line, answers[count]) if answers is not None and count < len(answers) else None
+    if what:
+        return [f'line {line} {what}: the run ended here']
+    return [f'line {line} was not reached: the run ended before it'] if script is not None and count < len(script) else []
+
+
 def do_tell(out, data, names, is_plain):
+    """A transcript; a plain one has a row for each move, and not how a run ended."""
     script, answers = texts(names)
+    fold = []       # moves by which pages come to be, one right behind another; the last has its row already
     with_names = script is not None and not is_plain
     ages = remarks.Ages() if with_names and answers is not None else None
 
@@ -322,7 +402,7 @@ def do_tell(out, data, names, is_plain):
         return answers[n - 1] if answers and n <= len(answers) else ''
 
     def row(n, asked):
-        told = ('%d  %-46s  %s' % (n, asked, said_at(n))).rstrip(' ')
+        told = ('%d  %-46s  %s' % (n, printed(asked), printed(said_at(n)))).rstrip(' ')
         if not with_names:
             return told
         answer, numbers = remarks.names_of_answer(asked, said_at(n)), remarks.names_of_line(asked)
@@ -334,15 +414,24 @@ def do_tell(out, data, names, is_plain):
 
     def seen(l, m, code, d):
         if m[0] == 'at':
-            fits(script, m)
+            fold.clear()
+            fits(script, answers, m)
             out.append(row(m[1], script[m[1] - 1] if script else ' '.join(str(x) for x in m[2])))
             return
         if ages and m[0] == 'map':
             ages.use(m[2])
+        if code in 'cf' and not is_plain and fold and is_next(fold[-1], m):
+            fold.append(m)
+            out[-1] = '     ' + fold_of(fold)
+            return
+        fold[:] = [m] if code in 'cf' else []
         why = remarks.why_chosen(code, m[1], ages.of(m[1]), d['above']) if ages and m[0] == 'unmap' else ''
         out.append('     ' + words_of(code, d, with_names) + why)
 
-    walk(data, seen, ended)
+    end = walk(data, seen, ended)
+    fits_end(answers, end.line or 0)
+    if not is_plain:
+        out += end_of_run(script, answers, end.line or 0)
 
 
 def do_events(out, data, names):
@@ -356,14 +445,14 @@ def do_events(out, data, names):
 
     def seen(l, m, code, d):
         if m[0] == 'at':
-            fits(script, m)
+            fits(script, answers, m)
             return
         if ages and m[0] == 'map':
             ages.use(m[2])
         why = remarks.why_chosen(code, m[1], ages.of(m[1]), d['above']) if ages and m[0] == 'unmap' else ''
         out.append(rows.event(l, code, d, why))
 
-    walk(data, seen, ended)
+    fits_end(answers, walk(data, seen, ended).line or 0)
 
 
 HEADS = ('zeroed', 'free', 'standby', 'modified', 'active', 'transition', 'slots', 'requests')
@@ -456,12 +545,12 @@ def do_counts_csv(out, data, names):
 
     def seen(l, m, code, d):
         if m[0] == 'at':
-            fits(script, m)
+            fits(script, answers, m)
         out.extend(held)
         held.clear()
 
     out.append(','.join(rows.COUNTS))
-    walk(data, seen, ended)
+    fits_end(answers, walk(data, seen, ended).line or 0)
     out.extend(held)
 
 
@@ -572,7 +661,7 @@ def encode(m, code):
 EVERY = 64          # a mark stands after each line 64 k, and at the end
 
 
-def island(data, script=None):
+def island(data, script=None, answers=None):
     """The classified moves, one text line for each line; marks `=` with the eight counts."""
     out = []
 
@@ -582,9 +671,10 @@ def island(data, script=None):
 
     def seen(l, m, code, d):
         if m[0] == 'at':
-            fits(script, m)
+            fits(script, answers, m)
         out.append(encode(m, code))
     end = walk(data, seen, ended)
+    fits_end(answers, end.line or 0)
     if end.line and end.line % EVERY:
         out.append('=' + numbers(*end.counts()))
     return ''.join(out) + '\n'
@@ -604,7 +694,7 @@ def do_html(data, page, names):
     script, answers = texts(names)
     packed = observed(names[2], script, answers) if len(names) > 2 else ''
     page = open(page, encoding='ascii').read()
-    islands = {'CLASSES': class_table(), 'MOVES': island(data, script),
+    islands = {'CLASSES': class_table(), 'MOVES': island(data, script, answers),
                'SCRIPT': ''.join(safe(x) + '\n' for x in script or []),
                'ANSWERS': ''.join(answer_data(x) + '\n' for x in answers or []),
                'NAME': safe(names[0]) + '\n' if names else '',
@@ -707,6 +797,8 @@ def answer(argv, data):
         last, status = 'script line %d\n' % bad.args[0], 6
     except Missing as what:
         last, status = 'no such %s\n' % what, 6
+    except BadAnswer as bad:
+        last, status = 'answer line %d\n' % bad.args[0], 6
     except observations.BadObservation as bad:
         last, status = 'observation line %d\n' % bad.args[0], 6
     return status, ''.join(line + '\n' for line in out) + last

@@ -5,9 +5,9 @@ use Rattle.mm_types.proofs.{append_nil}
 use Rattle.mm_move_rules.specs.{FrameLife, unstarted, after_move}
 use Rattle.mm_move_classes.specs.{MarksOf, no_marks, marks_after, next_of, Class}
 use Rattle.mm_csv.specs.{head_left}
-use Rattle.mm_log_walk.specs.{pending, class_then, move_of, Pending}
+use Rattle.mm_log_walk.specs.{pending, class_then, move_of, Pending, Beside}
 use Rattle.mm_log_walk.proofs.{class_known}
-use Rattle.mm_transcripts.specs.{AgesOf, no_ages, Beside, ages_then}
+use Rattle.mm_transcripts.specs.{AgesOf, no_ages, ages_then}
 use Rattle.mm_events.specs.{class_row, event_head, events_from, events_still, noted, waiting_row, Noted}
 
 module _ (b : Beside) (begun : Bool) (l : FrameLife) (v : MarksOf) (p : Option Pending) (x : Option Noted) (a : AgesOf) (m : Move) where

@@ -5,8 +5,8 @@ use Rattle.mm_types.specs.{Text, Move}
 use Rattle.mm_move_rules.specs.{FrameLife}
 use Rattle.mm_move_classes.specs.{MarksOf, marks_of, next_of}
 use Rattle.mm_csv.specs.{head_left}
-use Rattle.mm_log_walk.specs.{class_then, move_of, Classed, Pending}
-use Rattle.mm_transcripts.specs.{AgesOf, ages_of, Beside}
+use Rattle.mm_log_walk.specs.{class_then, move_of, Classed, Pending, Beside}
+use Rattle.mm_transcripts.specs.{AgesOf, ages_of}
 use Rattle.mm_events.specs.Events.{class_row, event_head, events_from}
 use Rattle.mm_events.specs.declared.rows.Noted.{Noted}
 use Rattle.mm_events.specs.declared.tellers.EventTeller.{EventTeller}

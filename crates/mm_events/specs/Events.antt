@@ -6,7 +6,8 @@ use Rattle.mm_move_rules.specs.{FrameLife, unstarted, after_move}
 use Rattle.mm_move_classes.specs.{MarksOf, no_marks, marks_after, class_of, next_of, Class}
 use Rattle.mm_csv.specs.{csv_row}
 use Rattle.mm_sentences.specs.{facts_of}
-use Rattle.mm_transcripts.specs.{AgesOf, no_ages, Beside, ages_then, reason_then, Reason}
+use Rattle.mm_transcripts.specs.{AgesOf, no_ages, ages_then, reason_then, Reason}
+use Rattle.mm_log_walk.specs.{Beside}
 use Rattle.mm_events.specs.Columns.{class_text, frame_columns, kind_word, page_columns, state_in}
 use Rattle.mm_events.specs.Reasons.{reason_text}
 use Rattle.mm_events.specs.declared.rows.Noted.{Noted}

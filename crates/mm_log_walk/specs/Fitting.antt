@@ -6,7 +6,7 @@ use Rattle.std.specs.Prelude.{is_some, length, take}
 use Rattle.mm_types.specs.{Text, decimal, LineKind, Move}
 use Rattle.mm_types.specs.declared.moves.LineKind.TheVariants as kind
 use Rattle.mm_types.specs.declared.moves.Move.TheVariants as move
-use Rattle.mm_log_check.specs.declared.endings.Ending.{Ending}
+use Rattle.mm_log_check.specs.{Ending}
 use Rattle.mm_log_check.specs.declared.endings.Ending.TheVariants as ending
 use Rattle.mm_log_walk.specs.AnswerForms.{can_answer}
 use Rattle.mm_log_walk.specs.Words.{first_word, is_access_word, is_thread_word}

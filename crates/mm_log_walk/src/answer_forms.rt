@@ -1,8 +1,8 @@
 ghost use Rattle.std.specs.Prelude.{◌≡◌, false, option_map, true};
-ghost use Rattle.mm_log_walk.specs.{all_can, can_answer, fitting_answers, other_answers, ten};
-ghost use Rattle.mm_log_walk.specs.AnswerForms.{is_digit, is_hex_digit, is_list_byte, stands_for, is_run, behind_run, behind_byte, fits_form};
-ghost use Rattle.mm_log_walk.specs.AnswerForms.{has_number, has_address, has_two_numbers, long_form, ok_form, is_done, is_error, is_own_word};
-ghost use Rattle.mm_log_walk.specs.AnswerForms.{is_raise, is_wait, may_raise, may_find_nothing, may_be_busy, may_be_full, may_fault, is_refused, is_left};
+ghost use Rattle.mm_log_walk.specs.{all_can, can_answer, fitting_answers, other_answers, ten, is_digit, is_hex_digit, is_list_byte, stands_for};
+ghost use Rattle.mm_log_walk.specs.{is_run, behind_run, behind_byte, fits_form, has_number, has_address, has_two_numbers, long_form, ok_form};
+ghost use Rattle.mm_log_walk.specs.{is_done, is_error, is_own_word, is_raise, is_wait, may_raise, may_find_nothing, may_be_busy, may_be_full};
+ghost use Rattle.mm_log_walk.specs.{may_fault, is_refused, is_left};
 
 use crate::words::{is_access_word, is_thread_word};
 use mm_script::is_text;

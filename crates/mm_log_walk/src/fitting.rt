@@ -1,9 +1,8 @@
 ghost use Rattle.std.specs.Prelude.{◌≡◌, true, false, MatchOption, option_map};
 ghost use Rattle.mm_types.specs.declared.moves.Move.TheVariants as move;
-ghost use Rattle.mm_log_walk.specs.{is_ending_word, is_section_word, is_memory_word, is_system_word};
-ghost use Rattle.mm_log_walk.specs.{is_refusable_word, is_call_word, fits_word, fits_line, fits, IsMisfit};
-ghost use Rattle.mm_log_walk.specs.{beside, end_closing, fits_answer, fits_script, is_answered, is_bad_text, is_long_text, line_of, misfit_closing};
-ghost use Rattle.mm_log_walk.specs.{surplus, surplus_among};
+ghost use Rattle.mm_log_walk.specs.{is_ending_word, is_section_word, is_memory_word, is_system_word, is_refusable_word, is_call_word, fits_word};
+ghost use Rattle.mm_log_walk.specs.{fits_line, fits, IsMisfit, beside, end_closing, fits_answer, fits_script, is_answered, is_bad_text, is_long_text};
+ghost use Rattle.mm_log_walk.specs.{line_of, misfit_closing, surplus, surplus_among};
 
 use crate::answer_forms::can_answer;
 use crate::closings::Closing;

@@ -1,6 +1,8 @@
 pub mod Ages
 pub mod Bits
+pub mod Ends
 pub mod Failures
+pub mod Folds
 pub mod Keeping
 pub mod Lines
 pub mod Named
@@ -15,7 +17,10 @@ pub mod Waiting
 pub mod Worked
 pub use Ages.{AgesOf, at_place, at_thread, no_ages, older, older_of}
 pub use Bits.{bit_row}
+pub use Ends.{cut_text, end_text, ending_text, line_is}
 pub use Failures.{code_name, failure_name, raise_name}
+pub use Folds.{adds_next, blocks_text, first_then, fold_row, fold_text, goes_on, is_next_block}
+pub use Folds.{is_next_key, keys_text}
 pub use Keeping.{AreTouchedBefore, age_by, age_in, one_age_more, same_thread}
 pub use Named.{failure_row}
 pub use Numbers.{has_name, union_text}
@@ -23,12 +28,12 @@ pub use Reasons.{age_words, process_words, words_if}
 pub use Remarks.{answer_remark, bracketed, event_remark, named_numbers, named_or, numbers_of}
 pub use Remarks.{remark_by, told_names, told_remark}
 unfoldable pub use Remarks.{remark_text}
-pub use Rows.{Beside, answered_row, asked_row, class_sentence_row, is_none_left, line_row}
-pub use Rows.{names_text, padded, row_text, said_text, trimmed}
+pub use Rows.{answered_row, asked_row, class_sentence_row, folded_row, is_none_left, line_row}
+pub use Rows.{names_text, padded, printed, printed_byte, row_text, said_text, told_row, trimmed}
 pub use Shown.{ages_of}
 pub use TakenNumbers.{AreReadAgain, taken_numbers}
 pub use Transcripts.{ages_then, reason_then, rows_from, transcript}
-pub use Waiting.{beside_of, classed_row, rows_rest, transcript_rest}
+pub use Waiting.{beside_of, classed_row, first_behind, rows_rest, transcript_rest}
 pub use Worked.{rewritten_rows, smallest_set_rows}
 pub use declared.numbers.Number.{Number}
 pub use declared.reasons.Reason.{Reason}

@@ -1,7 +1,7 @@
 -- The rows of a transcript: one for each line of a log, and below it one for each of its moves.
 -- Profile, "What a log shows".
 use Rattle.std.specs.Prelude.{ℕ, ◌-◌, Bool, true, false, ◌&&◌, ◌==◌, if◌then◌else◌, is_some, List}
-use Rattle.std.specs.Prelude.{[], ◌∷◌, ◌++◌, length, replicate, slice_get, codes, Option, Some}
+use Rattle.std.specs.Prelude.{[], ◌∷◌, ◌++◌, length, map, nat_le, replicate, codes, Option, Some}
 use Rattle.std.specs.Prelude.{None}
 use Rattle.mm_types.specs.{Text, decimal, LineKind, Move}
 use Rattle.mm_types.specs.declared.moves.Move.TheVariants as move
@@ -9,18 +9,11 @@ use Rattle.mm_move_rules.specs.{FrameLife}
 use Rattle.mm_move_classes.specs.{Class}
 use Rattle.mm_sentences.specs.declared.facts.Facts.{Facts}
 use Rattle.mm_sentences.specs.{kind_text, sentence_text}
+use Rattle.mm_log_walk.specs.{Beside, line_of}
+use Rattle.mm_transcripts.specs.Folds.{fold_row, goes_on}
 use Rattle.mm_transcripts.specs.Remarks.{remark_text}
 use Rattle.mm_transcripts.specs.Reasons.{words_if}
 use Rattle.mm_transcripts.specs.declared.reasons.Reason.{Reason}
-
--- the script and its answers, where they are named
-pub record Beside : Type 0 where
-  pub script : Option (List Text)
-  pub answers : Option (List Text)
-
-abbrev pub line_of : Option (List Text) → ℕ → Option Text
-line_of None n = None
-line_of (Some lines) n = slice_get lines (n - 1)
 
 -- ---- the row of a line
 
@@ -35,14 +28,21 @@ trimmed (c ∷ cs) =
     let behind = trimmed cs in
     if (c == 0x20) && is_none_left behind then [] else c ∷ behind
 
+-- a byte of a file as a terminal shows it: a control byte, or one that is no ASCII, as `?`
+abbrev pub printed_byte : ℕ → ℕ
+printed_byte c = if nat_le 32 c && nat_le c 126 then c else 63
+
+abbrev pub printed : Text → Text
+printed text = map printed_byte text
+
 -- with spaces up to a width of 46
 abbrev pub padded : Text → Text
-padded text = text ++ replicate (46 - length text) 0x20
+padded text = printed text ++ replicate (46 - length text) 0x20
 
 -- a line, and its answer if it has one
 abbrev pub answered_row : Text → Text → Text
-answered_row asked [] = trimmed asked
-answered_row asked (c ∷ cs) = padded asked ++ (codes "  " ++ c ∷ cs)
+answered_row asked [] = printed (trimmed asked)
+answered_row asked (c ∷ cs) = padded asked ++ (codes "  " ++ printed (c ∷ cs))
 
 abbrev pub said_text : Option Text → Text
 said_text None = []
@@ -73,3 +73,15 @@ class_sentence_row addressed (Some c) x r after =
 abbrev pub row_text : Beside → Move → Option Class → Facts → Option Reason → FrameLife → Text
 row_text b (move.At n k) c x r after = line_row n k (line_of b.script n) (line_of b.answers n)
 row_text b _ c x r after = class_sentence_row (is_some b.script) c x r after
+
+-- with those before it that are told in one with it, from this one on
+abbrev pub folded_row : Beside → Option Move → Move → Option Class → Facts → Option Reason
+    → FrameLife → Text
+folded_row b None m c x r after = row_text b m c x r after
+folded_row b (Some first) m c x r after = fold_row first m
+
+-- nothing yet where the next move goes on with it
+abbrev pub told_row : Beside → Option Move → Option Move → Move → Option Class → Facts
+    → Option Reason → FrameLife → Text
+told_row b first next m c x r after =
+    if goes_on c m next then [] else folded_row b first m c x r after

@@ -11,7 +11,10 @@ use Rattle.mm_transcripts.specs.Ages.{AgesOf, no_ages, after_move as ages_moved}
 use Rattle.mm_transcripts.specs.Lines.{after_line}
 use Rattle.mm_transcripts.specs.Reasons.{reason_at}
 use Rattle.mm_transcripts.specs.declared.reasons.Reason.{Reason}
-use Rattle.mm_transcripts.specs.Rows.{Beside, line_of, row_text}
+use Rattle.mm_log_walk.specs.{Beside, line_of}
+use Rattle.mm_transcripts.specs.Folds.{first_then}
+use Rattle.mm_transcripts.specs.Ends.{ending_text}
+use Rattle.mm_transcripts.specs.Rows.{told_row}
 
 -- ages are known where the script and its answers are named
 abbrev pub has_ages : Beside → Bool
@@ -27,15 +30,19 @@ ages_then b m a = if has_ages b then ages_by b m a else a
 abbrev pub reason_then : Beside → AgesOf → FrameLife → Move → Option Reason
 reason_then b a l m = if has_ages b then reason_at a l m else None
 
--- the rows of the moves that come, in this state, with these marks and ages, after this move
-abbrev pub rows_from : Beside → FrameLife → MarksOf → AgesOf → Option Move → List Move → Text
-rows_from b l v a before [] = []
-rows_from b l v a before (m ∷ ms) =
-    row_text b m (class_of l v before m (next_of ms)) (facts_of l m) (reason_then b a l m)
-    (after_move l m)
-    ++ rows_from b (after_move l m) (marks_after v m) (ages_then b m a) (Some m) ms
+-- the rows of the moves that come, in this state, with these marks and ages, after this move; the
+-- rows of the moves from `first` on are one with that of the first of them
+abbrev pub rows_from : Beside → Bool → FrameLife → MarksOf → AgesOf → Option Move → Option Move
+    → List Move → Text
+rows_from b whole l v a before first [] = ending_text b whole l.line
+rows_from b whole l v a before first (m ∷ ms) =
+    let c = class_of l v before m (next_of ms) in
+    told_row b first (next_of ms) m c (facts_of l m) (reason_then b a l m) (after_move l m)
+    ++ rows_from b whole (after_move l m) (marks_after v m) (ages_then b m a) (Some m)
+    (first_then c m (next_of ms) first) ms
 
--- the rows of all moves, whether the log ends well or not
+-- the rows of all moves, and where the log ends well what is said of a run that ended early
 abbrev pub transcript : Option (List Text) → Option (List Text) → Bool → List Move → Text
 transcript script answers whole moves =
-    rows_from (record { script = script; answers = answers }) unstarted no_marks no_ages None moves
+    rows_from (record { script = script; answers = answers }) whole unstarted no_marks no_ages None
+    None moves

@@ -8,25 +8,34 @@ use Rattle.mm_sentences.specs.declared.facts.Facts.{Facts}
 use Rattle.mm_transcripts.specs.Ages.{AgesOf}
 use Rattle.mm_transcripts.specs.Shown.{ages_of}
 use Rattle.mm_transcripts.specs.declared.reasons.Reason.{Reason}
-use Rattle.mm_log_walk.specs.{class_then, move_of, Classed, Pending}
-use Rattle.mm_transcripts.specs.Rows.{Beside, row_text}
+use Rattle.mm_log_walk.specs.{Beside, class_then, move_of, Classed, Pending}
+use Rattle.mm_transcripts.specs.Folds.{first_then}
+use Rattle.mm_transcripts.specs.Rows.{told_row}
 use Rattle.mm_transcripts.specs.Transcripts.{rows_from}
 use Rattle.mm_transcripts.specs.declared.transcripts.TranscriptTeller.{TranscriptTeller}
 
 -- the row of a move whose class is known now
-abbrev pub classed_row : Beside → Option Classed → Facts → Option Reason → FrameLife → Text
-classed_row b None x r after = []
-classed_row b (Some c) x r after = row_text b c.m c.class x r after
+abbrev pub classed_row : Beside → Option Move → Option Move → Option Classed → Facts
+    → Option Reason → FrameLife → Text
+classed_row b first next None x r after = []
+classed_row b first next (Some c) x r after = told_row b first next c.m c.class x r after
 
-abbrev pub rows_rest : Beside → MarksOf → Option Pending → Facts → Option Reason → AgesOf
-    → FrameLife → List Move → Text
-rows_rest b v p x r a l ms =
-    classed_row b (class_then p (next_of ms)) x r l ++ rows_from b l v a (move_of p) ms
+-- the first of the moves whose rows are one with that of the next
+abbrev pub first_behind : Option Classed → Option Move → Option Move → Option Move
+first_behind None next first = None
+first_behind (Some c) next first = first_then c.class c.m next first
+
+abbrev pub rows_rest : Beside → Bool → MarksOf → Option Pending → Option Move → Facts
+    → Option Reason → AgesOf → FrameLife → List Move → Text
+rows_rest b whole v p first x r a l ms =
+    classed_row b first (next_of ms) (class_then p (next_of ms)) x r l
+    ++ rows_from b whole l v a (move_of p) (first_behind (class_then p (next_of ms)) (next_of ms)
+    first) ms
 
 abbrev pub beside_of : TranscriptTeller → Beside
 beside_of t = record { script = t.script.now; answers = t.answers.now }
 
 abbrev pub transcript_rest : TranscriptTeller → Bool → FrameLife → List Move → Text
 transcript_rest t whole l ms =
-    rows_rest (beside_of t) (marks_of t.classifier.marks) t.classifier.pending t.facts t.reason
-    (ages_of t.ages) l ms
+    rows_rest (beside_of t) whole (marks_of t.classifier.marks) t.classifier.pending t.first
+    t.facts t.reason (ages_of t.ages) l ms

@@ -45,8 +45,7 @@ smallest_set_rows =
     codes "1  machine 6 0 1 0" ∷
     codes "2  process 1 0 1" ∷
     codes "3  call" ∷
-    codes "     page p1.16 comes to be, demand-zero: no frame yet" ∷
-    codes "     page p1.17 comes to be, demand-zero: no frame yet" ∷
+    codes "     pages p1.16 to p1.17 come to be, demand-zero: no frame yet" ∷
     codes "4  access 1" ∷
     codes "     free frame 0 is zeroed on demand" ∷
     codes "     demand-zero fault: p1.16 gets zeroed frame 0" ∷

@@ -4,7 +4,9 @@
 #![tactic(auto)]
 
 mod ages;
+mod ends;
 mod failures;
+mod folds;
 mod name_laws;
 mod numbers;
 mod reasons;

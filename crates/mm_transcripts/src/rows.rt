@@ -1,6 +1,7 @@
 ghost use Rattle.std.specs.Prelude.{◌≡◌, ◌-◌, ◌++◌, OnOk, replicate, option_map};
 ghost use Rattle.mm_replay.specs.Standing.{life as life_of};
-ghost use Rattle.mm_transcripts.specs.{words_if, trimmed, padded, answered_row, asked_row, said_text, names_text, line_row, class_sentence_row};
+ghost use Rattle.mm_transcripts.specs.{words_if, trimmed, printed, printed_byte, padded, answered_row, asked_row, said_text, names_text, line_row};
+ghost use Rattle.mm_transcripts.specs.{class_sentence_row};
 
 use crate::reasons::{Reason, put_reason};
 use crate::remarks::put_remark;
@@ -32,12 +33,33 @@ fn put_spaces(count: usize, text: &mut Vec<u8>) -> Result<(), NoMemory>
     Ok(())
 }
 
+/// A byte of a file as a terminal shows it: a control byte, or one that is no ASCII, as `?`.
+fn printed_byte(byte: u8) -> u8
+    ensures { result ≡ printed_byte byte }
+{
+    if byte >= 32 && byte <= 126 {
+        byte
+    } else {
+        b'?'
+    }
+}
+
+/// Writes the bytes of a line or of an answer as a terminal shows them.
+fn put_printed(bytes: &[u8], text: &mut Vec<u8>) -> Result<(), NoMemory>
+    ensures { OnOk result (text.new.items ≡ text.old.items ++ printed bytes.now) }
+{
+    for byte in bytes {
+        text.push(printed_byte(*byte))?;
+    }
+    Ok(())
+}
+
 /// Writes a line, and spaces up to a width of 46.
 #[tactic(auto, using(mm_sentences::proofs::Joined::joined))]
 fn put_padded(line: &[u8], text: &mut Vec<u8>) -> Result<(), NoMemory>
     ensures { OnOk result (text.new.items ≡ text.old.items ++ padded line.now) }
 {
-    put_words(line, text)?;
+    put_printed(line, text)?;
     put_spaces(46usize.saturating_sub(line.len()), text)
 }
 
@@ -47,11 +69,11 @@ fn put_answered(line: &[u8], said: &[u8], text: &mut Vec<u8>) -> Result<(), NoMe
     ensures { OnOk result (text.new.items ≡ text.old.items ++ answered_row line.now said.now) }
 {
     if said.is_empty() {
-        return put_words(trimmed(line), text);
+        return put_printed(trimmed(line), text);
     }
     put_padded(line, text)?;
     put_words(b"  ", text)?;
-    put_words(said, text)
+    put_printed(said, text)
 }
 
 /// The answer without the spaces at its end; nothing where there is none.

@@ -2,14 +2,17 @@ ghost use Rattle.std.specs.Prelude.{◌≡◌, ◌++◌, Bool, List, OnOk, optio
 ghost use Rattle.mm_types.specs.{Move};
 ghost use Rattle.mm_move_rules.specs.{unstarted};
 ghost use Rattle.mm_replay.specs.Standing.{life as life_of};
+ghost use Rattle.mm_log_walk.specs.{line_of};
 ghost use Rattle.mm_transcripts.specs.Shown.{ages_of};
-ghost use Rattle.mm_transcripts.specs.Rows.{line_of, row_text};
+ghost use Rattle.mm_transcripts.specs.Rows.{folded_row, row_text, told_row};
 ghost use Rattle.mm_transcripts.specs.Transcripts.{has_ages, ages_then, reason_then};
 ghost use Rattle.mm_transcripts.specs.Transcripts.{transcript};
-ghost use Rattle.mm_transcripts.specs.Waiting.{classed_row, transcript_rest};
+ghost use Rattle.mm_transcripts.specs.Waiting.{classed_row, first_behind, transcript_rest};
 ghost use Rattle.mm_sentences.specs.{why_text};
 
 use crate::ages::Ages;
+use crate::ends::put_ending;
+use crate::folds::{first_then, goes_on, put_fold_row};
 use crate::reasons::Reason;
 use crate::rows::{put_class_row, put_line_row};
 use mm_log_walk::{Classed, Classifier, Lines, Teller};
@@ -99,11 +102,58 @@ fn put_row(
     }
 }
 
+/// Writes the row of a move, and with it those of the moves before it from the first on.
+fn put_folded(
+    script: &Option<Lines>,
+    answers: &Option<Lines>,
+    first: &Option<Move>,
+    told: &Classed,
+    facts: &Facts,
+    reason: &Option<Reason>,
+    after: &Life,
+    text: &mut Vec<u8>,
+) -> Result<(), NoMemory>
+    ensures { OnOk result (text.new.items ≡ text.old.items
+        ++ folded_row (record { script = script.now; answers = answers.now }) first.now told.now.m
+        told.now.class facts.now reason.now (life_of after.now)) }
+{
+    match first {
+        Some(first) => put_fold_row(first, &told.m, text),
+        None => put_row(script, answers, told, facts, reason, after, text),
+    }
+}
+
+/// Writes the row of a move, but where the next move goes on with it.
+#[tactic(auto, using(mm_sentences::proofs::Joined::joined))]
+fn put_told(
+    script: &Option<Lines>,
+    answers: &Option<Lines>,
+    first: &Option<Move>,
+    next: Option<&Move>,
+    told: &Classed,
+    facts: &Facts,
+    reason: &Option<Reason>,
+    after: &Life,
+    text: &mut Vec<u8>,
+) -> Result<(), NoMemory>
+    ensures { OnOk result (text.new.items ≡ text.old.items
+        ++ told_row (record { script = script.now; answers = answers.now }) first.now
+        (option_map (λ n. n.now) next.entry) told.now.m told.now.class facts.now reason.now
+        (life_of after.now)) }
+{
+    if goes_on(told.class, &told.m, next) {
+        return Ok(());
+    }
+    put_folded(script, answers, first, told, facts, reason, after, text)
+}
+
 /// Writes the row of a move, if there is one.
 #[tactic(auto, using(mm_sentences::proofs::Joined::joined))]
 fn put_classed(
     script: &Option<Lines>,
     answers: &Option<Lines>,
+    first: &Option<Move>,
+    next: Option<&Move>,
     told: Option<Classed>,
     facts: &Facts,
     reason: &Option<Reason>,
@@ -111,22 +161,37 @@ fn put_classed(
     text: &mut Vec<u8>,
 ) -> Result<(), NoMemory>
     ensures { OnOk result (text.new.items ≡ text.old.items
-        ++ classed_row (record { script = script.now; answers = answers.now }) told
-        facts.now reason.now (life_of after.now)) }
+        ++ classed_row (record { script = script.now; answers = answers.now }) first.now
+        (option_map (λ n. n.now) next.entry) told facts.now reason.now (life_of after.now)) }
 {
     match told {
-        Some(told) => put_row(script, answers, &told, facts, reason, after, text),
+        Some(told) => put_told(
+            script, answers, first, next, &told, facts, reason, after, text,
+        ),
         None => Ok(()),
     }
 }
 
+/// The first of the moves whose rows are one with that of the next.
+fn first_behind(told: Option<Classed>, next: Option<&Move>, first: Option<Move>) -> Option<Move>
+    ensures { result ≡ first_behind told (option_map (λ n. n.now) next.entry) first }
+{
+    match told {
+        Some(told) => first_then(told.class, &told.m, next, first),
+        None => None,
+    }
+}
+
 /// Writes transcripts. The row of a move is written when the next move comes, since its class and
-/// what becomes of its frame are known then.
+/// what becomes of its frame are known then, and pages that come to be one behind another have one
+/// row.
 #[derive(Drop)]
 pub struct TranscriptTeller<'a> {
     script: &'a Option<Lines>,
     answers: &'a Option<Lines>,
     classifier: Classifier,
+    /// The first of the moves whose rows are one with that which is to be written, if it is another.
+    first: Option<Move>,
     /// Of the move whose row is to be written.
     facts: Facts,
     reason: Option<Reason>,
@@ -147,6 +212,7 @@ impl<'a> TranscriptTeller<'a> {
             script,
             answers,
             classifier: Classifier::new(alloc),
+            first: None,
             facts: no_facts(),
             reason: None,
             ages: Ages::new(alloc),
@@ -166,12 +232,15 @@ impl<'a> Teller for TranscriptTeller<'a> {
         put_classed(
             self.script,
             self.answers,
+            &self.first,
+            Some(m),
             before,
             &self.facts,
             &self.reason,
             life,
             text,
         )?;
+        self.first = first_behind(before, Some(m), self.first);
         self.facts = facts_of(life, m);
         self.reason = reason_then(self.script, self.answers, &self.ages, life, m);
         follow_ages(self.script, self.answers, m, &mut self.ages)?;
@@ -182,12 +251,15 @@ impl<'a> Teller for TranscriptTeller<'a> {
         put_classed(
             self.script,
             self.answers,
+            &self.first,
+            None,
             self.classifier.last(),
             &self.facts,
             &self.reason,
             life,
             text,
         )?;
+        put_ending(self.script, self.answers, whole, life.line(), text)?;
         Ok(())
     }
 

@@ -1,5 +1,5 @@
 use Rattle.std.proofs.Common.{◌≡◌, length}
-use Rattle.mm_log_walk.specs.AnswerForms.{behind_run}
+use Rattle.mm_log_walk.specs.{behind_run}
 use Rattle.mm_log_walk.proofs.answer_forms.behind_run.Given as goal
 
 abbrev pub invariant-loop-left : goal.invariant-loop-left

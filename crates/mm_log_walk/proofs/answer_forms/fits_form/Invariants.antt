@@ -1,5 +1,5 @@
 use Rattle.std.proofs.Common.{◌≡◌, length, Some}
-use Rattle.mm_log_walk.specs.AnswerForms.{behind_form}
+use Rattle.mm_log_walk.specs.{behind_form}
 use Rattle.mm_log_walk.proofs.answer_forms.fits_form.Given as goal
 
 abbrev pub invariant-loop-left : goal.invariant-loop-left

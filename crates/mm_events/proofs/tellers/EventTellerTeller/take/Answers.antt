@@ -2,8 +2,8 @@ use Rattle.std.proofs.Common.{◌++◌, Option, Some, ap, ◌∙◌}
 use Rattle.mm_move_rules.specs.{FrameLife}
 use Rattle.mm_replay.specs.Standing.{life}
 use Rattle.mm_move_classes.specs.{marks_of}
-use Rattle.mm_log_walk.specs.{Classed}
-use Rattle.mm_transcripts.specs.{ages_of, Beside, Reason}
+use Rattle.mm_log_walk.specs.{Classed, Beside}
+use Rattle.mm_transcripts.specs.{ages_of, Reason}
 use Rattle.mm_events.specs.{beside_of, noted_as, waiting_row, EventTeller, Noted}
 use Rattle.mm_events.proofs.{row_taken}
 use Rattle.mm_events.proofs.tellers.EventTellerTeller.take.Goals as goal
