@@ -10,10 +10,9 @@ use Rattle.mm_replay.proofs.{one_move}
 use Rattle.mm_log_check.specs.{IsStuck, StuckBefore, SpellsMove, SpellsBefore, Lines, Stops}
 use Rattle.mm_log_check.proofs.{Ended, in_front, no_more, one_reading, taken_told, end_told}
 use Rattle.mm_log_check.specs.declared.endings.Ending.TheVariants as ending
-use Rattle.mm_log_walk.specs.{Beside, fits, AreFit, ClosesAt, Said, Why, close_words, closing_text, closing_status, HasTold, HasBegun, Answers, IsBroken, Says, ToldInPart, IsWhole}
-use Rattle.mm_log_walk.specs.{IsCut, IsMisfitAt, SaysExactly, Closing, is_broken, misfit_closing, surplus, whole_closing, fits_script}
-use Rattle.mm_log_walk.specs.Telling.{Misfits}
-use Rattle.mm_log_walk.specs.{Sought, sought_status, sought_words}
+use Rattle.mm_log_walk.specs.{Beside, fits, AreFit, ClosesAt, Said, Why, close_words, closing_text, closing_status, HasTold, HasBegun, Answers}
+use Rattle.mm_log_walk.specs.{IsBroken, Says, ToldInPart, IsWhole, IsCut, IsMisfitAt, SaysExactly, Closing, is_broken, misfit_closing, surplus}
+use Rattle.mm_log_walk.specs.{whole_closing, fits_script, Misfits, Sought, sought_status, sought_words}
 use Rattle.mm_log_walk.specs.declared.closings.Closing.TheVariants as closing
 
 -- a log that is read to where it ends has every legal beginning

@@ -9,10 +9,9 @@ use Rattle.mm_move_rules.proofs.{replays_then}
 use Rattle.mm_log_check.specs.{most_bytes, IsReadyToRead, Lines, ReadsMoves, Stops, LogReader, Ending}
 use Rattle.mm_log_check.specs.Reading.{Reading}
 use Rattle.mm_log_check.specs.declared.endings.Ending.TheVariants as ending
-use Rattle.mm_log_walk.specs.{fits, AreFit, Beside, IsMisfit, RestOf, Poured, Tells, Closes, ClosesAt, BeginsAll, Halts, HasBegun, Said, Why, ends_well, close_words, said_by, closing_text, closing_status}
-use Rattle.mm_log_walk.specs.{HasTold, Closing, IsBroken, Says, is_broken, surplus, whole_closing, end_closing, fits_script}
-use Rattle.mm_log_walk.specs.Telling.{Misfits}
-use Rattle.mm_log_walk.specs.{Sought}
+use Rattle.mm_log_walk.specs.{fits, AreFit, Beside, IsMisfit, RestOf, Poured, Tells, Closes, ClosesAt, BeginsAll, Halts, HasBegun, Said, Why}
+use Rattle.mm_log_walk.specs.{ends_well, close_words, said_by, closing_text, closing_status, HasTold, Closing, IsBroken, Says, is_broken, surplus}
+use Rattle.mm_log_walk.specs.{whole_closing, end_closing, fits_script, Misfits, Sought}
 use Rattle.mm_log_walk.specs.declared.closings.Closing.TheVariants as closing
 
 pub fit_more : (b : Beside) (ms : List Move) (m : Move) → AreFit b ms → fits b m ≡ true → AreFit b (ms ++ m ∷ [])

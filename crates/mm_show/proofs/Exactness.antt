@@ -5,9 +5,8 @@ use Rattle.mm_types.specs.{Text, Move}
 use Rattle.mm_log_walk.proofs.{says_exactly}
 use Rattle.mm_log_walk.specs.{SaysExactly, Said, said_by, Answers, RestOf, beside, HasBytes, HasLines, FileFault, Sought}
 use Rattle.mm_move_rules.specs.{unstarted}
-use Rattle.mm_show.specs.declared.pages.PageTexts.{PageTexts}
-use Rattle.mm_show.specs.{PageOf, form_said, form_sought, form_why, sums_said, FileIs, sums_text, sum_rest, SumTeller, Form, FileHas, IfGood, IsRefusedRow, LacksFile, files_at, word_at, observed, whole_page, page_rest, PageTeller}
-use Rattle.mm_show.specs.{page_said, whole_page_text}
+use Rattle.mm_show.specs.{PageTexts, PageOf, form_said, form_sought, form_why, sums_said, FileIs, sums_text, sum_rest, SumTeller, Form, FileHas}
+use Rattle.mm_show.specs.{IfGood, IsRefusedRow, LacksFile, files_at, word_at, observed, whole_page, page_rest, PageTeller, page_said, whole_page_text}
 
 abbrev read_as : Option (List Text) → Result (Option (List Text)) FileFault
 read_as lines = Ok lines

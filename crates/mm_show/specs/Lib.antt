@@ -14,12 +14,13 @@ pub use PageRest.{page_rest}
 pub use Sums.{class_row, class_sums, code_count, is_kind, kind_row, kind_sums, sums_text}
 pub use Counted.{AreFew, of_class, of_kind}
 pub use SumRest.{sum_rest, sums_left}
-pub use Forms.{files_at, files_of, form_of, has_answers, has_observations, has_script, key_of, line_asked_for}
-pub use Forms.{page_at, pid_of, private_key, shared_key, word_at}
-pub use Showing.{FileFailed, FileIs, IsUnread, LacksFile, PageOf, form_said, form_sought, form_why, page_said}
-pub use Showing.{sums_said, unread_text, usage_text, whole_page_text}
-pub use Observed.{bad_row_text, FileHas, IfGood, IsRefusedRow, observed}
+pub use Forms.{files_at, files_of, form_of, has_answers, has_observations, has_script, key_of}
+pub use Forms.{line_asked_for, page_at, pid_of, private_key, shared_key, word_at}
+pub use Observed.{FileHas, IfGood, IsRefusedRow, bad_row_text, observed}
+pub use Showing.{FileFailed, FileIs, IsUnread, LacksFile, PageOf, form_said, form_sought, form_why}
+pub use Showing.{page_said, sums_said, unread_text, usage_text, whole_page_text}
 pub use Texts.{page_of, whole_page}
 pub use declared.data.PageTeller.{PageTeller}
 pub use declared.forms.Form.{Form}
+pub use declared.pages.PageTexts.{PageTexts}
 pub use declared.sums.SumTeller.{SumTeller}

@@ -1,6 +1,6 @@
 ghost use Rattle.std.specs.Prelude.{◌≡◌, MatchResult, Ok, option_map};
 ghost use Rattle.mm_observations.specs.{Refuses, run_lines};
-ghost use Rattle.mm_show.specs.Observed.{observed};
+ghost use Rattle.mm_show.specs.{observed};
 
 use mm_log_walk::Lines;
 use mm_observations::{PackFault, RunLines, packed};

@@ -1,7 +1,7 @@
 use Rattle.std.proofs.Common.{◌≡◌, ◌⊎◌, ◌+◌, ◌∙◌, Some, true, sym, subst, option_map, inl}
 use Rattle.std.specs.Prelude.{map, string_bytes}
 use Rattle.mm_types.specs.{Text}
-use Rattle.mm_show.proofs.Exactness.{Shown, shown_exactly}
+use Rattle.mm_show.proofs.{Shown, shown_exactly}
 use Rattle.mm_show.specs.{Form, files_of, has_script, has_answers, has_observations, FileIs, FileHas, IsUnread, LacksFile, files_at, word_at}
 use Rattle.mm_show.proofs.top.run_show.Goals as goal
 

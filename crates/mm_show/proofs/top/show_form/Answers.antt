@@ -2,8 +2,7 @@ use Rattle.std.proofs.Common.{◌≡◌, Bool, List, Option, ℕ, sym, ap, ◌�
 use Rattle.std.specs.Prelude.{map, string_bytes}
 use Rattle.mm_types.specs.{Text}
 use Rattle.mm_show.specs.{files_of, has_script, has_answers, form_said, form_sought, form_why, FileIs, IsUnread, whole_page, files_at, word_at}
-use Rattle.mm_show.proofs.{file_lines}
-use Rattle.mm_show.proofs.Exactness.{Shown}
+use Rattle.mm_show.proofs.{file_lines, Shown}
 use Rattle.mm_show.proofs.top.show_form.Goals as goal
 
 pub returns-clause-exact : goal.returns-clause-exact
