@@ -26,8 +26,9 @@ moves; of OBSERVATIONS, as melzudek observe writes them, a page has address spac
   mmshow tell examples/first.mm examples/first.out < first.log
 
 Statuses: 0 shown; 1 memory was refused; 2 the words are no form; 3 a line of the log is no legal
-move; 4 the log or a file could not be read; 5 the text could not be written; 6 the script does
-not fit, or the log has no such line or page frame; 8 the log is too long.";
+move; 4 the log or a file could not be read; 5 the text could not be written; 6 a file does not fit
+the log, or the log has no such line or page frame; 8 the log has more than 1,000,000,000,000
+bytes.";
 
 /// The form that has at most three files behind it.
 fn with_observations<'a>(
