@@ -2,7 +2,7 @@
 //! that paging must not change. A program for comparisons; it tells no moves.
 #![tactic(auto)]
 
-ghost use Rattle.std.specs.Prelude.{◌≡◌, ◌≤◌, ◌<◌, ◌+◌, false, OnOk, IfOk, length, replicate};
+ghost use Rattle.std.specs.Prelude.{◌≡◌, ◌≤◌, ◌<◌, ◌+◌, false, OnOk, IfOk, IfSome, length, replicate};
 ghost use Rattle.mm_devices.specs.{empty_block};
 ghost use Rattle.mm_script.specs.{IsWellFormed};
 ghost use Rattle.mm_store.specs.{IsNew};
@@ -162,20 +162,28 @@ fn over_machine<S: Source, O: Sink>(
     }
 }
 
+/// Decides all lines, of which the first names the machine; the status of their end.
+fn run_lines<S: Source, O: Sink>(alloc: Global, held: &mut Held, source: &mut S, out: &mut O) -> u8
+    requires room { length held.old < 4096 }
+{
+    let event = match next_event(held, source) {
+        Ok(Some(event)) => event,
+        Ok(None) => return 0,
+        Err(status) => return status,
+    };
+    match &event {
+        Event::Machine(machine) => over_machine(alloc, *machine, held, source, out),
+        _ => BAD_LINE,
+    }
+}
+
 /// Runs the script on standard input; the status of its end. The answers are flushed by then.
 fn simulate(rt: &HostRuntime) -> Result<u8, NoMemory> {
     let alloc: Global = rt.alloc();
     let mut source = StdSource::new(rt.reader());
     let mut out = StdSink::new(buffered(alloc, io::writer(rt))?);
     let mut held = Held::new();
-    let status = match next_event(&mut held, &mut source) {
-        Ok(Some(Event::Machine(machine))) => {
-            over_machine(alloc, machine, &mut held, &mut source, &mut out)
-        }
-        Ok(Some(_)) => BAD_LINE,
-        Ok(None) => 0,
-        Err(status) => status,
-    };
+    let status = run_lines(alloc, &mut held, &mut source, &mut out);
     match out.flush() {
         Ok(()) => Ok(status),
         Err(_) => Ok(OUT_FAULT),

@@ -1,6 +1,6 @@
 use Rattle.std.proofs.Common.{◌≡◌, ◌<◌, ◌+◌, false, length}
 use Rattle.mm_dispatch.specs.{line_number}
-use Rattle.mmunpaged.proofs.main.decide_lines.Given as goal
+use Rattle.mmunpaged.proofs.decide_lines.Given as goal
 
 abbrev pub invariant-loop-n : goal.invariant-loop-n
 invariant-loop-n g l = record {
