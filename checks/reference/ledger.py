@@ -252,7 +252,9 @@ def state_rows(ledger: Ledger) -> list[str]:
         else:
             runs.append((number, number, said))
     for first, last, said in runs:
-        rows.append(f"frame {first} {said}" if first == last else f"frames {first} to {last} {said}")
+        rows.append(
+            f"frame {first} {said}" if first == last else f"frames {first} to {last} {said}"
+        )
     for pid, (least, most) in sorted(ledger.sets.items()):
         places = [place.split(".") for place in ledger.valid]
         pages = sorted(int(page) for owner, page in places if int(owner) == pid)
