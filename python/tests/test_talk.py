@@ -150,11 +150,12 @@ def test_a_script_comes_first(tmp_path: Path) -> None:
 def test_many_moves_are_cut_and_shown_when_asked_for() -> None:
     given = (
         "machine 64 64 4 0\nprocess 0 32\nalloc 1 0 256K MEM_COMMIT|MEM_RESERVE PAGE_READWRITE\n"
+        "free 1 64K 0 MEM_RELEASE\n"
     )
     _, shown, _ = said(given + "moves\n")
-    cut = below(shown, "3> alloc 1 0 256K MEM_COMMIT|MEM_RESERVE PAGE_READWRITE")
+    cut = below(shown, "4> free 1 64K 0 MEM_RELEASE")
     assert len(cut) == talk.MOST_MOVES + 2 and cut[-1].strip().startswith("and 44 more")
-    assert len(below(shown, "4> moves")) == 64
+    assert len(below(shown, "5> moves")) == 64
 
 
 class Terminal:
@@ -203,6 +204,7 @@ def test_at_a_terminal_lines_are_edited_and_had_again(tmp_path: Path) -> None:
     one.type("\x1b[A\n")  # up: the line before
     one.wait("ok 2\r\n4> ")
     one.type("read 1 ")
+    one.wait("read 1 ")
     one.type("\x03")  # Ctrl-C drops the line
     one.wait("4> ")
     one.type("raed 1 64K 1\n")
