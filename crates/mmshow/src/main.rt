@@ -144,7 +144,7 @@ fn named(
     first: Option<usize>,
     behind: usize,
 ) -> Option<StdSource<File>> {
-    let place = first? + behind;
+    let place = first?.checked_add(behind)?;
     match words.get(place) {
         Some(name) => match fs::open(rt, name.as_str()) {
             Ok(file) => Some(StdSource::new(file)),
