@@ -96,6 +96,7 @@ struct Drawn {
 /// A number below n.
 fn draw(words: &mut Lcg64Xsh32, n: u32) -> u32
     requires { 0 < n }
+    ensures { result < n }
 {
     words.next_word() % n
 }
