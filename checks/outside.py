@@ -124,8 +124,8 @@ def compare_memory(check: Check) -> None:
         check.leave_out("memory that is refused, as there is no C compiler (package gcc)")
         return
     words = [sys.executable, "tools/refused-memory"]
-    for name, path in check.programs.items():
-        words += [f"--{name}", path]
+    for name in PROGRAMS:
+        words += [f"--{name}", check.programs[name]]
     ended = run(words, seconds=1200)
     counted = re.findall(r" +(\d+) +\d+ +\d+(?:  .*)?$", ended.out.decode(), re.MULTILINE)
     asked = sum(map(int, counted))
