@@ -47,7 +47,7 @@ impl<G: PageStore> World<G> {
         }
     }
 
-    /// The store.
+    /// Ends the world and gives its store back, as the last line left it.
     pub fn finish(self) -> G
         ensures { result ≡ self.pages }
     {
@@ -70,26 +70,24 @@ impl<G: PageStore> World<G> {
         self.tables.charge()
     }
 
-    /// Decides one line, the next one, and writes its answer over the one that stands there: it is
-    /// that of the definitions' step from the world that there was, by the store's reports before
-    /// and after it, and the world that there is then is the step's.
+    /// Carries out the next line of a script, such as an `alloc` or a `read`, and writes its answer
+    /// into `answer`. `mm_world` defines what each line does to processes, regions and pages and
+    /// what it answers; answer and world are those (`Decides`).
     ///
-    /// Each form is the Windows call that `mm_calls` name at its function, or this
-    /// profile's own. `line` is the number of the line in its script, where `machine` is line 1,
-    /// which is a world's beginning and no line for this call.
+    /// `line` is the line's number in its script. Line 1, `machine`, begins a world and is no line
+    /// for this call. Each other form is the Windows call that `mm_calls` names at its function, or
+    /// this profile's own.
     ///
-    /// `NoMemory` comes only from a `process` for which a number is left, an `alloc` that makes a
-    /// region or commits a page that was not, a `protect` that gives a page its first mark, a
-    /// `probe` that makes a stack grow, and a `file`, `create`, `createfile`, `open`, `map`, `grow`
-    /// or `stack` that is not refused. Then the world is as it was, what stands in the answer's
-    /// place is not told, and no further line can be decided. A failed access and a `fault` come
-    /// only where a device's count of faults rose in the line, or, of a `resume`, where the read
-    /// that its thread waited for failed before.
+    /// `NoMemory`: the host has no memory for the line. It comes only from a `process` for which a
+    /// number is left, an `alloc` that makes a region or commits a page that was not, a `protect`
+    /// that gives a page its first mark, a `probe` that makes a stack grow, and a `file`, `create`,
+    /// `createfile`, `open`, `map`, `grow` or `stack` that is not refused. Then the world is as it
+    /// was, `answer` means nothing, and no further line can be decided (`Breaks`).
     ///
-    /// What is told of a line that was decided is one record (`Decides`), and of one that ran out
-    /// of memory another (`Breaks`). Over a store that pages, the line's piece of the log of moves
-    /// is its `at` and the moves that its form allows (`ToldBeside`: `line`); after `NoMemory` it
-    /// is an `at` alone, or empty (`broken`).
+    /// A failed access and a `fault` come only where a device's count of faults rose in the line,
+    /// or, of a `resume`, where the read that its thread waited for failed before. Over a store
+    /// that pages, the line's piece of the log is its `at` and the moves that its form allows
+    /// (`ToldBeside`: `line`); after `NoMemory` it is an `at` alone, or empty (`broken`).
     #[tactic(auto, using(crate::proofs::Readiness::idle_in))]
     pub fn step(
         &mut self,

@@ -115,7 +115,7 @@ pub struct Classifier {
 }
 
 impl Classifier {
-    /// No move was taken.
+    /// A classifier at the beginning of a log, which has taken no move yet.
     pub fn new(alloc: Global) -> Classifier
         ensures marks { marks_of result.marks ≡ no_marks }
         ensures none { result.pending ≡ None }

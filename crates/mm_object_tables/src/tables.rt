@@ -103,7 +103,7 @@ impl Tables {
         }
     }
 
-    /// Lets all of it go.
+    /// Ends the tables: their memory is given back.
     pub fn end(self) {}
 
     /// The machine, with the page-file slots that there are now.

@@ -148,8 +148,8 @@ pub struct CountsTeller<'a> {
 }
 
 impl<'a> CountsTeller<'a> {
-    /// Nothing was told. `script` and `answers` are those of the log's run, where they are named;
-    /// the charge that they tell stands in rows of csv.
+    /// A teller at the beginning of a log. `script` and `answers` are those of the log's run, if they
+    /// are named; the charge that they tell stands in rows of csv.
     pub fn new(
         alloc: Global,
         style: Style,
@@ -246,7 +246,7 @@ pub struct UseTeller {
 }
 
 impl UseTeller {
-    /// The line has not ended.
+    /// A teller of what each page frame is used for after this line of the script.
     pub fn new(alloc: Global, line: u32) -> UseTeller
         ensures { (whole : Bool) (moves : List Move)
             → use_rest result whole unstarted moves ≡ use_rows line whole moves }

@@ -38,7 +38,7 @@ pub struct FaultTeller {
 }
 
 impl FaultTeller {
-    /// Nothing was counted.
+    /// A teller at the beginning of a log, which counts the faults of each page and process.
     pub fn new(alloc: Global, style: Style) -> FaultTeller
         ensures { (whole : Bool) (moves : List Move)
             → fault_rest result whole unstarted moves ≡ fault_rows style whole moves }

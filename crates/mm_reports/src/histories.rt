@@ -57,7 +57,7 @@ pub struct HistoryTeller {
 }
 
 impl HistoryTeller {
-    /// Nothing was told.
+    /// A teller at the beginning of a log, which tells the history of this frame or page.
     pub fn new(alloc: Global, subject: Subject) -> HistoryTeller
         ensures { (whole : Bool) (moves : List Move)
             → history_rest result whole unstarted moves ≡ history subject whole moves }

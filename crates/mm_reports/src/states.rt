@@ -221,7 +221,7 @@ pub struct StateTeller {
 }
 
 impl StateTeller {
-    /// The line has not ended.
+    /// A teller of all page frames, lists and requests as they are after this line of the script.
     pub fn new(alloc: Global, line: u32) -> StateTeller
         ensures { (whole : Bool) (moves : List Move)
             → state_rest result whole unstarted moves ≡ state_rows line whole moves }

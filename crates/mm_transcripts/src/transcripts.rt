@@ -199,7 +199,8 @@ pub struct TranscriptTeller<'a> {
 }
 
 impl<'a> TranscriptTeller<'a> {
-    /// Nothing was told. `script` and `answers` are those of the log's run, where they are named.
+    /// A teller at the beginning of a log. `script` and `answers` are those of the log's run, if they
+    /// are named.
     pub fn new(
         alloc: Global,
         script: &'a Option<Lines>,
