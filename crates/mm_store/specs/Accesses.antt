@@ -118,10 +118,21 @@ pub record AccessMoves (a : Aim) (b : Behind) (moves : List Move) : Type 0 where
   pub one_read : count_by is_read_move moves ≤ 1
   pub few_writes : count_by is_wrote_move moves ≤ count_by takes_frame moves
 
+-- whether a read fails among these moves: if so, it is the last of them and the only one
+abbrev pub ReadFails : Bool → List Move → Type 0
+ReadFails failed [] = failed ≡ false
+ReadFails failed (move.Bad f ∷ ms) = (failed ≡ true) × (ms ≡ [])
+ReadFails failed (m ∷ ms) = ReadFails failed ms
+
+abbrev pub is_read_fault : PageFault → Bool
+is_read_fault fault.Read = true
+is_read_fault fault.NoFrame = false
+
 -- of an access answered with its bytes: its place is valid and as young as can be, and no thread
 -- waits but by its moves
 pub record Had (a : Aim) (b : Behind) (moves : List Move) (c : Behind) : Type 0 where
   pub made : AccessMoves a b moves
+  pub read : ReadFails false moves
   pub waits : c.waits ≡ waits_through moves b.waits
   pub valid : is_some (c.life.valid a.place) ≡ true
   pub ages : c.ages ≡ changed same_place (ages_through moves b.ages) a.place 0
@@ -130,6 +141,7 @@ pub record Had (a : Aim) (b : Behind) (moves : List Move) (c : Behind) : Type 0 
 pub record Failed (a : Aim) (why : PageFault) (b : Behind) (moves : List Move) (c : Behind) :
     Type 0 where
   pub made : AccessMoves a b moves
+  pub read : ReadFails (is_read_fault why) moves
   pub waits : c.waits ≡ waits_through moves b.waits
   pub ages : c.ages ≡ ages_through moves b.ages
   pub starved : why ≡ fault.NoFrame →
@@ -170,6 +182,7 @@ wait_begun _ _ = Idle
 pub record Starts (a : Aim) (tid : ℕ) (result : Start) (b : Behind) (moves : List Move)
     (c : Behind) : Type 0 where
   pub made : AccessMoves a b moves
+  pub read : ReadFails false moves
   pub waits : c.waits ≡
       changed ◌==◌ (waits_through moves b.waits) tid (wait_begun result (c.life.stands a.need.key))
   pub ages : c.ages ≡ ages_through moves b.ages
