@@ -123,6 +123,7 @@ went_bytes a n s v c w = record {
   };
   each = w.each;
   ends = w.ends;
+  fails = w.fails;
   few_reads = w.few_reads;
   few_writes = w.few_writes;
 }
@@ -210,7 +211,7 @@ may_copy k f place s t h m p =
 -- a frame is zeroed first
 took_added : (a : Aim) (k : Key) (f : Frame) (s x y z : StateOf) → Readies s x → Made (move.Add k None) x y → a.need.copy ≡ Some k → f ≡ front y.life.frames.zeroed → Made (move.Give f k) y z → TookFrame a 0 s z
 took_added a k f s x y z r m c q g = took_ready a IsFresh 0 s x z r
-    (λ t. piece_of a IsFresh 0 1 0 t (move.Add k None ∷ move.Give f k ∷ []) x z (does_two (move.Add k None) (move.Give f k) x y z m g) ((c, (f, refl)), (inr c, tt)) refl (omega arith) (omega arith))
+    (λ t. piece_of a IsFresh false 0 1 0 t (move.Add k None ∷ move.Give f k ∷ []) x z (does_two (move.Add k None) (move.Give f k) x y z m g) ((c, (f, refl)), (inr c, tt)) refl refl (omega arith) (omega arith))
     (λ t. q ∙ ap (λ (l : FrameLife). front l.frames.zeroed) m.life)
 
 copy_life : (k : Key) (f : Frame) (s x y z : StateOf) → StateHolds s → Readies s x → Made (move.Add k None) x y → Made (move.Give f k) y z → KeyAdded k s.life z.life
@@ -313,8 +314,8 @@ went_put : (a : Aim) (place : Place) (f : Frame) (s y z : StateOf) → a.place �
 went_put a place f s y z e c shows i u m =
     let live = in_frame_live (key_of_place place) f s i in
     let copied = ap (λ (o : Option Key). unwrap_or (option_map (λ k. is_live s.life k) o) false) c ∙ live in
-    piece_of a IsFresh 0 0 0 [] (move.Unmap place ∷ move.Map f place ∷ []) s z (does_two (move.Unmap place) (move.Map f place) s y z u m)
-    (ByCopy (sym e) copied shows (f, ap (λ (x : Place). move.Map f x) (sym e)), (sym e, tt)) refl (omega arith) (omega arith)
+    piece_of a IsFresh false 0 0 0 [] (move.Unmap place ∷ move.Map f place ∷ []) s z (does_two (move.Unmap place) (move.Map f place) s y z u m)
+    (ByCopy (sym e) copied shows (f, ap (λ (x : Place). move.Map f x) (sym e)), (sym e, tt)) refl refl (omega arith) (omega arith)
 
 -- ---- what stays
 

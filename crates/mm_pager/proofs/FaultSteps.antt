@@ -9,7 +9,7 @@ use Rattle.mm_types.specs.{Held, Move, Frame, Key, Place, PageFault}
 use Rattle.mm_types.specs.declared.moves.Move.TheVariants as move
 use Rattle.mm_types.specs.declared.moves.Stored.TheVariants as stored
 use Rattle.mm_world.specs.{Need, Tally}
-use Rattle.mm_store.specs.{Aim, AccessMove, InShortage, is_framed, is_shortage, no_calls}
+use Rattle.mm_store.specs.{Aim, AccessMove, ReadFails, InShortage, is_framed, is_shortage, no_calls}
 use Rattle.mm_state_calls.specs.{StateOf, Searched, walk_of, IsFlightOf, Made, moved, moved_with_call, names_after_give, StateHolds}
 use Rattle.mm_pager.specs.{Anywhere, HasTried, Sought, Stuck, AccessBegins, Causes, KeepsButNames, Fails, LifeKept, Pins, TookFrame, IsFresh, IsFor}
 use Rattle.mm_pager.specs.{ReadsFor, InQuietFrame, GivesFrame, FindsNone, Frees, Brings, FailsToBring, Faulted, PutsAtPlace, Went}
@@ -102,18 +102,27 @@ record Seeks (pin : Option Frame) (a : Aim) (s : StateOf) : Type 0 where
 search_each : (pin : Option Frame) (a : Aim) (found : Bool) (s z : StateOf) → Seeks pin a s → (h : Searched pin found s z) → Through (AccessMove a) (walk_of s) h.moves
 search_each pin a found s z k h = access_all pin a s.life.stands k.wants h.moves (walk_of s) refl k.at (h.each a.start.flight k.flight)
 
+-- it reads no page
+none_fails : (pin : Option Frame) (flight : List ℕ) (ms : List Move) (w : Walk) → Through (SearchMove pin flight) w ms → ReadFails false ms
+none_fails pin flight [] w h = refl
+none_fails pin flight (move.Bad f ∷ ms) w h = absurd h.0
+none_fails pin flight (m ∷ ms) w h = none_fails pin flight ms (walked w m) h.1
+
+search_fine : (pin : Option Frame) (a : Aim) (found : Bool) (s z : StateOf) → Seeks pin a s → (h : Searched pin found s z) → ReadFails false h.moves
+search_fine pin a found s z k h = none_fails pin a.start.flight h.moves (walk_of s) (h.each a.start.flight k.flight)
+
 sought_in : (pin : Option Frame) (a : Aim) (s z : StateOf) → Seeks pin a s → Searched pin true s z → Sought a s z
 sought_in pin a s z k h =
     let none = h.no_read in
     let one = h.one in
-    piece_of a Anywhere 0 0 1 [] h.moves s z h.does (search_each pin a true s z k h) tt (omega (arith, none)) (omega (arith, one))
+    piece_of a Anywhere false 0 0 1 [] h.moves s z h.does (search_each pin a true s z k h) tt (search_fine pin a true s z k h) (omega (arith, none)) (omega (arith, one))
 
 stuck_in : (pin : Option Frame) (a : Aim) (s z : StateOf) → Seeks pin a s → Searched pin false s z → Stuck a fault.NoFrame 0 s z
 stuck_in pin a s z k h =
     let none = h.no_read in
     let lost = h.lost refl in
-    piece_of a (HasTried a fault.NoFrame z) 0 0 0 [] h.moves s z h.does (search_each pin a false s z k h)
-    (λ e. subst (λ (o : Option Frame). Starved o (walked_all (walk_of s) h.moves)) (sym ((search_left pin false s z h).valid a.place k.at)) (h.starved refl)) (omega (arith, none)) (omega (arith, lost))
+    piece_of a (HasTried a fault.NoFrame z) false 0 0 0 [] h.moves s z h.does (search_each pin a false s z k h)
+    (λ e. subst (λ (o : Option Frame). Starved o (walked_all (walk_of s) h.moves)) (sym ((search_left pin false s z h).valid a.place k.at)) (h.starved refl)) (search_fine pin a false s z k h) (omega (arith, none)) (omega (arith, lost))
 
 -- why nothing came of it, by the report
 pub search_causes : (pin : Option Frame) (k : Key) (s z : StateOf) → Searched pin false s z → Causes fault.NoFrame k s z
@@ -247,7 +256,7 @@ zero_unframed h e = refl
 -- a read of it ends
 pub brings_settled : (k : Key) (f : Frame) (s z : StateOf) → StateHolds s → s.life.stands k ≡ held.Frame f → Made (move.Got f) s z → z ≡ moved_with_call s z → is_read (record_at z.life.frames f.0).request ≡ false → Brings k f s z
 brings_settled k f s z h e m same quiet = record {
-  went = λ a b. piece_of a IsFresh 1 0 0 [] (move.Got f ∷ []) s z (does_one (move.Got f) s z m) (h.owner k f e ∙ ap (λ (x : Key). Some x) (sym b.needs), tt) refl (omega arith) (omega arith);
+  went = λ a b. piece_of a IsFresh false 1 0 0 [] (move.Got f ∷ []) s z (does_one (move.Got f) s z m) (h.owner k f e ∙ ap (λ (x : Key). Some x) (sym b.needs), tt) refl refl (omega arith) (omega arith);
   keeps = keeps_called s z (ap (λ (l : FrameLife). l.kind) m.life) (ap (λ (l : FrameLife). l.valid) m.life) same;
   calm = got_calm f s z m;
   names = λ place v n. ap (λ (x : StateOf). changed same_place x.names place v) same;
@@ -257,7 +266,7 @@ brings_settled k f s z h e m same quiet = record {
 
 pub settling_fails : (k : Key) (f : Frame) (s z : StateOf) → StateHolds s → s.life.stands k ≡ held.Frame f → Made (move.Bad f) s z → z ≡ moved_with_call s z → FailsToBring k fault.Read s z
 settling_fails k f s z h e m same = record {
-  stuck = λ a b. piece_of a (HasTried a fault.Read z) 1 0 0 [] (move.Bad f ∷ []) s z (does_one (move.Bad f) s z m) (h.owner k f e ∙ ap (λ (x : Key). Some x) (sym b.needs), tt) (λ q. cc) (omega arith) (omega arith);
+  stuck = λ a b. piece_of a (HasTried a fault.Read z) true 1 0 0 [] (move.Bad f ∷ []) s z (does_one (move.Bad f) s z m) (h.owner k f e ∙ ap (λ (x : Key). Some x) (sym b.needs), tt) (λ q. cc) (refl, refl) (omega arith) (omega arith);
   fails = read_fails k s z (bad_read f k s z h m e) (bad_fault f s z h m) same;
 }
 
