@@ -1,6 +1,6 @@
 -- The steps of a fault, from what their pieces promise.
 use Rattle.std.proofs.Common.{◌≡◌, ℕ, Bool, true, false, List, [], ◌∷◌, Option, Some, None, refl, sym, ap, ◌∙◌, subst, arith, inl}
-use Rattle.std.specs.Prelude.{◌&&◌, ◌||◌, not, if◌then◌else◌, ◌==◌, option_map, unwrap_or}
+use Rattle.std.specs.Prelude.{◌&&◌, ◌||◌, not, is_some, if◌then◌else◌, ◌==◌, option_map, unwrap_or}
 use Rattle.mm_move_rules.specs.{is_access, is_on, FrameLife, same_place, is_live, is_dead, key_of_place, is_short, after_move, after_unmap_at, Replays}
 use Rattle.mm_move_rules.specs.{Walk, Through, walked, walked_all, SearchMove, Starved, IsVictim, may_go, is_unpinned, record_at, is_read, changed}
 use Rattle.mm_move_rules.specs.{is_stored, is_zero, fits_place}
@@ -79,12 +79,12 @@ search_left pin found s z h = left_all pin s.life.flight h.moves (walk_of s) z.l
 
 -- ---- each move is one of the access
 
-module _ (pin : Option Frame) (a : Aim) (stands : Key → Held) (wants : (l : FrameLife) → l.stands ≡ stands → is_short l ≡ true → is_shortage a.need l ≡ true) where
+module _ (pin : Option Frame) (a : Aim) (stands : Key → Held) (wants : (l : FrameLife) → l.stands ≡ stands → l.valid a.place ≡ pin → is_short l ≡ true → is_shortage a.need a.place l ≡ true) where
   access_one : (w : Walk) (m : Move) (ms : List Move) → w.life.stands ≡ stands → w.life.valid a.place ≡ pin → SearchMove pin a.start.flight w m ms → AccessMove a w m ms
-  access_one w (move.Write f s) ms e v h = (wants w.life e h.0, h.1, h.2)
+  access_one w (move.Write f s) ms e v h = (wants w.life e v h.0, h.1, h.2)
   access_one w (move.Wrote f) ms e v h = h
   access_one w (move.Lost f) ms e v h = h
-  access_one w (move.Unmap p) ms e v h = InShortage (wants w.life e h.0) h.1 (subst (λ (o : Option Frame). IsVictim w.life w.ages o p) (sym v) h.2)
+  access_one w (move.Unmap p) ms e v h = InShortage (wants w.life e v h.0) h.1 (subst (λ (o : Option Frame). IsVictim w.life w.ages o p) (sym v) h.2)
   access_one w m ms e v h = absurd h
 
   access_all : (ms : List Move) (w : Walk) → w.life.stands ≡ stands → w.life.valid a.place ≡ pin → Through (SearchMove pin a.start.flight) w ms → Through (AccessMove a) w ms
@@ -95,7 +95,7 @@ module _ (pin : Option Frame) (a : Aim) (stands : Key → Held) (wants : (l : Fr
 
 -- a search that an access makes, of a page that wants a frame
 record Seeks (pin : Option Frame) (a : Aim) (s : StateOf) : Type 0 where
-  wants : (l : FrameLife) → l.stands ≡ s.life.stands → is_short l ≡ true → is_shortage a.need l ≡ true
+  wants : (l : FrameLife) → l.stands ≡ s.life.stands → l.valid a.place ≡ pin → is_short l ≡ true → is_shortage a.need a.place l ≡ true
   at : s.life.valid a.place ≡ pin
   flight : IsFlightOf a.start.flight pin s.life
 
@@ -130,8 +130,8 @@ search_causes pin k s z h = record { read = λ e. cc; kept = λ e. h.read; short
 
 -- ---- without a pinned frame
 
-short_of : (n : Need) (l : FrameLife) → is_short l ≡ true → is_framed (l.stands n.key) ≡ false → is_shortage n l ≡ true
-short_of n l s f = at (is_short l) (is_framed (l.stands n.key)) _ s f
+short_of : (n : Need) (place : Place) (l : FrameLife) → is_short l ≡ true → is_framed (l.stands n.key) ≡ false → is_shortage n place l ≡ true
+short_of n place l s f = at (is_short l) (is_framed (l.stands n.key)) _ s f
   where
     at : (b c d : Bool) → b ≡ true → c ≡ false → (b && (not c || d)) ≡ true
     at true false d p q = refl
@@ -140,7 +140,7 @@ short_of n l s f = at (is_short l) (is_framed (l.stands n.key)) _ s f
 
 seeks_by : (a : Aim) (k : Key) (s : StateOf) → is_framed (s.life.stands k) ≡ false → AccessBegins a k s → Seeks None a s
 seeks_by a k s u b = record {
-  wants = λ l e h. short_of a.need l h (ap (λ (x : Key → Held). is_framed (x a.need.key)) e ∙ ap (λ (j : Key). is_framed (s.life.stands j)) b.needs ∙ u);
+  wants = λ l e v h. short_of a.need a.place l h (ap (λ (x : Key → Held). is_framed (x a.need.key)) e ∙ ap (λ (j : Key). is_framed (s.life.stands j)) b.needs ∙ u);
   at = b.at;
   flight = λ f h. inl (ap (λ (x : FrameLife). is_on f.0 x.flight) (sym b.from) ∙ h);
 }
@@ -170,8 +170,8 @@ search_keeps found s z h = let l = search_left None found s z h in record {
 copy_wanted : (o : Option Key) (k : Key) (l : FrameLife) → o ≡ Some k → is_live l k ≡ false → unwrap_or (option_map (λ k. not (is_live l k)) o) false ≡ true
 copy_wanted o k l e d = ap (λ (x : Option Key). unwrap_or (option_map (λ k. not (is_live l k)) x) false) e ∙ ap not d
 
-short_copy : (n : Need) (k : Key) (l : FrameLife) → is_short l ≡ true → n.copy ≡ Some k → is_live l k ≡ false → is_shortage n l ≡ true
-short_copy n k l s e d = at (is_short l) (is_framed (l.stands n.key)) _ s (copy_wanted n.copy k l e d)
+short_copy : (n : Need) (place : Place) (f : Frame) (k : Key) (l : FrameLife) → is_short l ≡ true → l.valid place ≡ Some f → n.copy ≡ Some k → is_live l k ≡ false → is_shortage n place l ≡ true
+short_copy n place f k l s v e d = at (is_short l) (is_framed (l.stands n.key)) _ s (λ i. is_some (v i) && copy_wanted n.copy k l e d i)
   where
     at : (b c x : Bool) → b ≡ true → x ≡ true → (b && (not c || x)) ≡ true
     at true true x p q = q
@@ -180,7 +180,7 @@ short_copy n k l s e d = at (is_short l) (is_framed (l.stands n.key)) _ s (copy_
 
 seeks_pinned : (a : Aim) (place : Place) (f : Frame) (s : StateOf) → Pins a place f s → Seeks (Some f) a s
 seeks_pinned a place f s p = record {
-  wants = λ l e h. short_copy a.need (key_of_place place) l h p.copy (ap (λ (x : Key → Held). not (is_dead (x (key_of_place place)))) e ∙ p.dead);
+  wants = λ l e v h. short_copy a.need a.place f (key_of_place place) l h v p.copy (ap (λ (x : Key → Held). not (is_dead (x (key_of_place place)))) e ∙ p.dead);
   at = ap s.life.valid p.at ∙ p.valid;
   flight = p.flight;
 }

@@ -42,7 +42,7 @@ goes_more a w p ms ys (InShortage s n v) = InShortage s n v
 
 pub access_more : (a : Aim) (w : Walk) (m : Move) (ms ys : List Move) → AccessMove a w m ms → AccessMove a w m (ms ++ ys)
 access_more a w (move.At n k) ms ys h = absurd h
-access_more a w (move.Add k None) ms ys h = (h.0, first_more (IsGiven k) (λ g. g) (λ m ms ys g. g) ms ys h.1)
+access_more a w (move.Add k None) ms ys h = (h.0, h.1, first_more (IsGiven k) (λ g. g) (λ m ms ys g. g) ms ys h.2)
 access_more a w (move.Add k (Some b)) ms ys h = absurd h
 access_more a w (move.Drop k) ms ys h = absurd h
 access_more a w (move.Clear f) ms ys h = given_more f ms ys h

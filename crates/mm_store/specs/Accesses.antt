@@ -83,13 +83,14 @@ pub data PageGoes (a : Aim) (w : Walk) (p : Place) (rest : List Move) : Type 0 w
   FromFull : p.pid ≡ a.place.pid → w.life.valid a.place ≡ None →
       is_at_max (set_of w.life p.pid.0) ≡ true → IsOldest w.life w.ages None p →
       IsMapped a.place rest → PageGoes a w p rest
-  InShortage : is_shortage a.need w.life ≡ true → next_writable w ≡ None →
+  InShortage : is_shortage a.need a.place w.life ≡ true → next_writable w ≡ None →
       IsVictim w.life w.ages (w.life.valid a.place) p → PageGoes a w p rest
 
 -- what each move of an access is
 abbrev pub AccessMove : Aim → Walk → Move → List Move → Type 0
 AccessMove a w (move.At n k) rest = ⊥
-AccessMove a w (move.Add k None) rest = (a.need.copy ≡ Some k) × IsGiven k rest
+AccessMove a w (move.Add k None) rest = (a.need.copy ≡ Some k) ×
+    (is_some (w.life.valid a.place) ≡ true) × IsGiven k rest
 AccessMove a w (move.Add k (Some b)) rest = ⊥
 AccessMove a w (move.Drop k) rest = ⊥
 AccessMove a w (move.Clear f) rest = IsGivenNext f rest
@@ -104,7 +105,7 @@ AccessMove a w (move.Map f p) rest = p ≡ a.place
 AccessMove a w (move.Unmap p) rest = PageGoes a w p rest
 AccessMove a w (move.Soil f) rest = (a.writes ≡ true) × (w.life.valid a.place ≡ Some f) ×
     ((record_at w.life.frames f.0).owner ≡ Some (key_written a.need))
-AccessMove a w (move.Write f s) rest = (is_shortage a.need w.life ≡ true) ×
+AccessMove a w (move.Write f s) rest = (is_shortage a.need a.place w.life ≡ true) ×
     (next_writable w ≡ Some f.0) × IsWriteEnded f rest
 AccessMove a w (move.Wrote f) rest = is_on f.0 a.start.flight ≡ false
 AccessMove a w (move.Lost f) rest = is_on f.0 a.start.flight ≡ false
