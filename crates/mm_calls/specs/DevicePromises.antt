@@ -24,6 +24,8 @@ module _ {G : Type 0} (p : PageStoreGhosts G) where
     pub line_is : (p.store h).line ≡ line
     pub grew : (limit : ℕ) → a ≡ answer.Limit limit →
         (p.store h).paging_device ≡ (p.store g).paging_device
+    -- where the machine can have no more slots the device is not asked
+    pub unasked : a ≡ answer.Full → (p.store h).paging_device ≡ (p.store g).paging_device
     pub cause : a ≡ answer.Fault →
         Rose (p.store g).paging_device.faults (p.store h).paging_device.faults
     pub faults : (p.store g).paging_device.faults ≤ (p.store h).paging_device.faults

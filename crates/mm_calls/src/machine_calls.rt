@@ -60,9 +60,9 @@ pub fn end_process<G: PageStore>(t: &mut Tables, g: &mut G, pid: Pid) -> Answer
 /// `grow` (own): the paging file grows by `n` slots, and the commit limit with it. The call notes
 /// its own line.
 ///
-/// `Full` exactly where the machine would have more than 262,144 slots; `Fault` only where the
-/// paging device failed. `NoMemory`, after which no line has begun, comes only where it is not
-/// `Full`.
+/// `Full` exactly where the machine would have more than 262,144 slots, and then no device is
+/// asked; `Fault` only where the paging device failed. `NoMemory`, after which no line has begun,
+/// comes only where it is not `Full`.
 pub fn grow_paging<G: PageStore>(
     t: &mut Tables,
     g: &mut G,

@@ -7,12 +7,12 @@ use Rattle.mm_move_rules.specs.{FrameLife, record_at, is_write as is_write_reque
 use Rattle.mm_move_rules.specs.{after_unmap_at, after_write_to, Replays, Waiting, Idle, ended_by, waits_after, Walk, walked, walked_all, Through}
 use Rattle.mm_move_rules.specs.{waits_through, ages_through, tried_after, is_read_move, is_wrote_move, takes_frame}
 use Rattle.mm_store.specs.{changed, Aim, AccessMove, ReadyMoves, key_written, ByCopy, FromFull, InShortage, walk_from, StoreOf, same_place, place_at, PassesIn}
-use Rattle.mm_store.specs.{AccessEnds, Had, Failed, Touches, Copies, PageGoes}
+use Rattle.mm_store.specs.{AccessEnds, Had, Failed, ReadFails, is_read_fault, Touches, Copies, PageGoes}
 use Rattle.mm_store.specs.Behind.{Behind}
-use Rattle.mm_world.specs.{WorldOf, Attempt, Need, same_key, need_at}
+use Rattle.mm_world.specs.{WorldOf, Attempt, Need, same_key, need_at, read_failed}
 use Rattle.mm_world.specs.Report.{Report}
 use Rattle.mm_store.specs.Reports.{Ends}
-use Rattle.mm_store.proofs.{Joins, passes_then, waits_then, ages_then, accesses_then}
+use Rattle.mm_store.proofs.{Joins, passes_then, waits_then, ages_then, accesses_then, fails_then}
 use Rattle.mm_line_moves.specs.{aim_at, is_write, is_had, is_failed, is_pending_read}
 use Rattle.mm_line_moves.proofs.{ready_moves}
 use Rattle.mm_dispatch.specs.{AnswersAccess, Answered}
@@ -196,10 +196,15 @@ no_frame n after fault.NoFrame e none = refl
 no_frame n after fault.Read e none =
     let bad : true ≡ false = sym (e.read refl) ∙ ap (λ (o : Option Key). unwrap_or (option_map (same_key n.key) o) false) none in cc
 
+why_failed : (n : Need) (after : Report) {T : Type 0} (why : PageFault) → Ends {T = T} n after (Err why) → read_failed n after ≡ is_read_fault why
+why_failed n after fault.NoFrame e = (e.no_frame refl).0
+why_failed n after fault.Read e = e.read refl
+
 module _ (a : Aim) (after : Report) (b : Behind) (ms : List Move) (c : Behind) where
   answers_had : (r : Answer) → Gives r → Had a b ms c → AnswersAccess a r after b ms c
   answers_had r g h = record {
     made = h.made;
+    read = subst (λ (f : Bool). ReadFails (f && read_failed a.need after) ms) (sym g.fine) h.read;
     valid = λ e. h.valid;
     starved = λ e n. let bad : true ≡ false = sym e ∙ g.fine in cc;
     ages = h.ages ∙ (λ i. λ p. cond (sym g.had i) (changed same_place (ages_through ms b.ages) a.place 0 p) (ages_through ms b.ages p));
@@ -210,6 +215,7 @@ module _ (a : Aim) (after : Report) (b : Behind) (ms : List Move) (c : Behind) w
   answers_lost : {T : Type 0} (why : PageFault) → Ends {T = T} a.need after (Err why) → Failed a why b ms c → AnswersAccess a (answer.Raised raise.InPageError) after b ms c
   answers_lost why e h = record {
     made = h.made;
+    read = subst (λ (f : Bool). ReadFails f ms) (sym (why_failed a.need after why e)) h.read;
     valid = λ bad. cc;
     starved = λ f none. h.starved (no_frame a.need after why e none);
     ages = h.ages;
@@ -285,6 +291,7 @@ module _ (a own : Aim) (place : own.place ≡ a.place) (writes : a.writes ≡ tr
           one_read = omega (arith, all_reads, reads, one);
           few_writes = omega (arith, all_wrote, all_takes, wrote, few);
         };
+        read = fails_then false xs ys p.read q.read;
         waits = q.waits ∙ ap (waits_through ys) p.waits ∙ sym (waits_then xs ys b.waits);
         valid = ap (λ (x : Place). is_some (d.life.valid x)) (sym place) ∙ q.valid;
         ages =

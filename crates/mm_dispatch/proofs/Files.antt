@@ -277,21 +277,27 @@ module _ (w : World) (used n number : ℕ) (u : Bool) (s z : StoreOf) (b c : Beh
 
   grew-by : (E : Type 0) (a : Answer) → z ≡ extended s z
       → ((limit : ℕ) → a ≡ answer.Limit limit → z.paging_device ≡ s.paging_device)
+      → (a ≡ answer.Full → z.paging_device ≡ s.paging_device)
       → NotesIn u (GrowsBy {E = E} number n (Ok a)) b c → GrewBy a
-  grew-by E (answer.Limit limit) e grew p = (
+  grew-by E answer.Full e grew unasked p = (
+    (unasked refl, ap (λ (s : StoreOf). s.file_device) e),
+    ((noted u (GrowsBy {E = E} number n (Ok answer.Full)) b c paging p).that.slots, ap (λ (s : StoreOf). s.file_blocks) e),
+  )
+  grew-by E (answer.Limit limit) e grew unasked p = (
     (grew limit refl, ap (λ (s : StoreOf). s.file_device) e),
     ((noted u (GrowsBy {E = E} number n (Ok (answer.Limit limit))) b c paging p).that.slots, ap (λ (s : StoreOf). s.file_blocks) e),
   )
-  grew-by E a e grew p = (
+  grew-by E a e grew unasked p = (
     (ap (λ (s : StoreOf). s.paging_device) e, ap (λ (s : StoreOf). s.file_device) e),
     ((noted u (GrowsBy {E = E} number n (Ok a)) b c paging p).that.slots, ap (λ (s : StoreOf). s.file_blocks) e),
   )
 
   pub beside-grow : {E : Type 0} (r : Result Answer E) → IfOk r (λ a. z ≡ extended s z)
       → IfOk r (λ a. (limit : ℕ) → a ≡ answer.Limit limit → z.paging_device ≡ s.paging_device)
+      → IfOk r (λ a. a ≡ answer.Full → z.paging_device ≡ s.paging_device)
       → NotesIn u (GrowsBy number n r) b c → IfOk r GrewBy
-  beside-grow {E} (Ok a) e grew p = grew-by E a e grew p
-  beside-grow (Err x) e grew p = tt
+  beside-grow {E} (Ok a) e grew unasked p = grew-by E a e grew unasked p
+  beside-grow (Err x) e grew unasked p = tt
 
 pub beside-fail : {G : Type 0} (p : PageStoreGhosts G) (t : Tables) (device : Device) (direction : Direction) (k n : ℕ) (a : Answer) {number : ℕ} {form : LineKind} {g m : G} → StartsLine p number form g m → (h : G)
     → p.unpaged ≡ false → (p.store h).file_blocks ≡ (p.store m).file_blocks → p.behind h ≡ p.behind m → AskedBesideOver p t (line.Fail device direction k n) a g h

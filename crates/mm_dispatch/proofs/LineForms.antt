@@ -1,16 +1,16 @@
 -- A line's piece of the log: its `at`, and an access behind it, or none.
 use Rattle.std.proofs.Common.{◌≡◌, ℕ, List, [], ◌∷◌, ◌++◌, Bool, true, false, Option, Some, None, refl, sym, ap, ◌∙◌, subst, cond, option_map, is_some, arith, inl}
-use Rattle.std.specs.Prelude.{◌==◌}
+use Rattle.std.specs.Prelude.{◌==◌, ◌&&◌}
 use Rattle.std.proofs.lemmas.List.{append-nil}
 use Rattle.mm_types.specs.{Answer, Why, Event, Held, Move, Pid, Place, page_of}
 use Rattle.mm_types.proofs.{some_found}
 use Rattle.mm_move_rules.specs.{FrameLife, after_move, Replays, is_valid, Starved, Waiting, Idle, Walk, walked_all, waits_through, ages_through, Through}
 use Rattle.mm_move_rules.specs.{walked}
 use Rattle.mm_world.specs.World.{World}
-use Rattle.mm_world.specs.{Attempt, Need, BeingRead, need_at, Tables}
+use Rattle.mm_world.specs.{Attempt, Need, BeingRead, need_at, Tables, read_failed}
 use Rattle.mm_world.specs.Report.{Report}
 use Rattle.mm_store.specs.{StoreOf, changed, same_place, place_at, PassesIn, Aim, AccessMoves, Forgets, wait_begun, walk_from, OneMove, NoMove}
-use Rattle.mm_store.specs.{AccessMove, Ghosts as PageStoreGhosts}
+use Rattle.mm_store.specs.{AccessMove, ReadFails, Ghosts as PageStoreGhosts}
 use Rattle.mm_store.specs.Behind.{Behind}
 use Rattle.mm_store.proofs.{Joins, passes_then}
 use Rattle.mm_line_moves.specs.{aim_at, aim_of, is_write, kind_of_line, Accesses, AccessesBy, Does, ages_of_line, waits_of_line, awaited, is_had}
@@ -62,6 +62,15 @@ aim-start place writes l m (Some n) a e =
 no_moves : (a : Aim) (b : Behind) → AccessMoves a b []
 no_moves a b = record { each = tt; one_read = omega arith; few_writes = omega arith }
 
+-- no read failed in it
+not_read : (plain failed read : Bool) → failed ≡ false → (plain && failed && read) ≡ false
+not_read false failed read e = refl
+not_read true failed read e = ap (λ (b : Bool). b && read) e
+
+never_read : (plain failed read : Bool) → (plain ≡ true → ⊥) → (plain && failed && read) ≡ false
+never_read false failed read never = refl
+never_read true failed read never = absurd (never refl)
+
 -- ---- a line that accesses a page
 
 -- what the definitions say of a line by its access, which fails or, of a thread, does not
@@ -80,17 +89,18 @@ module _ (plain : Bool) (w : World) (e : Event) (n : ℕ) (r : Answer) (v : Worl
     m = move.At n (kind_of_line w e r)
 
     -- an access behind the `at`
-    lined : (a : Aim) → aim_at w y.life pid addr what ≡ Some a → AccessMoves a y ys → (plain ≡ false → is_failed r ≡ true → ys ≡ []) → (is_had r ≡ true → is_valid c.life a.place ≡ true)
+    lined : (a : Aim) → aim_at w y.life pid addr what ≡ Some a → AccessMoves a y ys → ReadFails (plain && is_failed r && read_failed a.need after) ys → (plain ≡ false → is_failed r ≡ true → ys ≡ []) → (is_had r ≡ true → is_valid c.life a.place ≡ true)
         → (is_pending_read r ≡ true → after.whereabouts a.need.key ≡ Some BeingRead)
         → (plain ≡ true → is_failed r ≡ true → after.last_failed_read ≡ None → Starved (c.life.valid a.place) (walked_all (walk_from y) ys))
         → c.ages ≡ place_had (Some a) r (ages_through ys y.ages) → c.waits ≡ waits_of_line w e r b (waits_through ys b.waits) c.life
         → Lined w e n r v after b (xs ++ ys) c
-    lined a is made still valid awaited starved ages waits =
+    lined a is made read still valid awaited starved ages waits =
         let life : y.life ≡ after_move b.life m = begun_life m b y xs rep p in
         let old : y.ages ≡ b.ages = begun_ages m b y xs rep p in
         let aim : aim_of w (with_line m b).life e ≡ Some a = form.aim (after_move b.life m) ∙ ap (λ (l : FrameLife). aim_at w l pid addr what) (sym life) ∙ is in
         let accesses : Accesses plain a r after (with_line m b) ys c = record {
           made = moves_from a m b y ys life old made;
+          read = read;
           still = still;
           valid = valid;
           awaited = awaited;
@@ -113,7 +123,7 @@ module _ (plain : Bool) (w : World) (e : Event) (n : ℕ) (r : Answer) (v : Worl
     -- a plain access
     lined_plain : {Ready : Type 0} → plain ≡ true → ((f : ℕ → Waiting) (l : FrameLife) → waits_of_line w e r b f l ≡ f) → Answered (aim_at w y.life pid addr what) Ready r after y ys c → Lined w e n r v after b (xs ++ ys) c
     lined_plain always waits q =
-        lined q.aimed q.is q.answers.made (λ never. let bad : true ≡ false = sym always ∙ never in cc) q.answers.valid (λ pends. let bad : true ≡ false = sym pends ∙ q.answers.settled in cc) (λ x. q.answers.starved) q.answers.ages
+        lined q.aimed q.is q.answers.made (subst (λ (f : Bool). ReadFails (f && is_failed r && read_failed q.aimed.need after) ys) (sym always) q.answers.read) (λ never. let bad : true ≡ false = sym always ∙ never in cc) q.answers.valid (λ pends. let bad : true ≡ false = sym pends ∙ q.answers.settled in cc) (λ x. q.answers.starved) q.answers.ages
         (q.answers.waits ∙ ap (waits_through ys) (begun_waits m b y xs rep p) ∙ sym (waits (waits_through ys b.waits) c.life))
 
     module _ (tid : ℕ) (waited : Waited w e r tid) where
@@ -126,7 +136,7 @@ module _ (plain : Bool) (w : World) (e : Event) (n : ℕ) (r : Answer) (v : Worl
       -- an access of a thread that was made
       lined_made : (plain ≡ true → ⊥) → MadeBy (aim_at w y.life pid addr what) tid r y ys c → Lined w e n r v after b (xs ++ ys) c
       lined_made never q =
-          lined q.aimed q.is q.made (λ thread fails. let bad : true ≡ false = sym fails ∙ q.fine in cc) q.valid (λ pends. let bad : true ≡ false = sym pends ∙ q.settled in cc) (λ x. absurd (never x)) q.ages
+          lined q.aimed q.is q.made (subst (λ (f : Bool). ReadFails f ys) (sym (not_read plain (is_failed r) (read_failed q.aimed.need after) q.fine)) q.read) (λ thread fails. let bad : true ≡ false = sym fails ∙ q.fine in cc) q.valid (λ pends. let bad : true ≡ false = sym pends ∙ q.settled in cc) (λ x. absurd (never x)) q.ages
           (q.waits
           ∙ ap (λ (f : ℕ → Waiting). changed ◌==◌ (waits_through ys f) tid Idle) (begun_waits m b y xs rep p)
           ∙ (λ i. changed ◌==◌ (waits_through ys b.waits) tid (cond (sym q.settled i) (awaited (Some q.aimed) c.life) Idle))
@@ -137,7 +147,7 @@ module _ (plain : Bool) (w : World) (e : Event) (n : ℕ) (r : Answer) (v : Worl
       lined_failed never lost settled a is q =
           let ages : c.ages ≡ y.ages = ap (λ (x : Behind). x.ages) q.same in
           let waits : c.waits ≡ changed ◌==◌ y.waits tid Idle = ap (λ (x : Behind). x.waits) q.same in
-          lined a is (subst (λ t. AccessMoves a y t) (sym q.none) (no_moves a y)) (λ thread fails. q.none) (λ had. let bad : true ≡ false = sym had ∙ lost in cc) (λ pends. let bad : true ≡ false = sym pends ∙ settled in cc) (λ x. absurd (never x))
+          lined a is (subst (λ t. AccessMoves a y t) (sym q.none) (no_moves a y)) (subst (λ t. ReadFails (plain && is_failed r && read_failed a.need after) t) (sym q.none) (never_read plain (is_failed r) (read_failed a.need after) never)) (λ thread fails. q.none) (λ had. let bad : true ≡ false = sym had ∙ lost in cc) (λ pends. let bad : true ≡ false = sym pends ∙ settled in cc) (λ x. absurd (never x))
           (ages ∙ ap (λ t. ages_through t y.ages) (sym q.none) ∙ (λ i. λ x. cond (sym lost i) (changed same_place (ages_through ys y.ages) a.place 0 x) (ages_through ys y.ages x)))
           (waits
           ∙ ap (λ (f : ℕ → Waiting). changed ◌==◌ f tid Idle) (begun_waits m b y xs rep p ∙ ap (λ t. waits_through t b.waits) (sym q.none))
@@ -159,7 +169,7 @@ module _ (w : World) (e : Event) (n : ℕ) (why : Why) (v : World) (after : Repo
   -- an access of a thread that has to wait
   lined_waits : (b y c : Behind) (xs ys : List Move) → Replays xs b.life y.life → OneMove (move.At n (kind_of_line w e (answer.Pending why))) b xs y → WaitsBy (aim_at w y.life pid addr what) tid why after y ys c → Lined w e n (answer.Pending why) v after b (xs ++ ys) c
   lined_waits b y c xs ys rep p q =
-      lined false w e n (answer.Pending why) v after pid addr what form b y c xs ys rep p q.aimed q.is q.starts.made (λ thread fails. cc) (λ had. cc) (λ pends. q.awaited (reads why pends)) (λ plain. cc) q.starts.ages
+      lined false w e n (answer.Pending why) v after pid addr what form b y c xs ys rep p q.aimed q.is q.starts.made q.starts.read (λ thread fails. cc) (λ had. cc) (λ pends. q.awaited (reads why pends)) (λ plain. cc) q.starts.ages
       (q.starts.waits
       ∙ ap (λ (f : ℕ → Waiting). changed ◌==◌ (waits_through ys f) tid (wait_begun (start.Pending why) (c.life.stands q.aimed.need.key))) (begun_waits (move.At n (kind_of_line w e (answer.Pending why))) b y xs rep p)
       ∙ ap (λ (x : Waiting). changed ◌==◌ (waits_through ys b.waits) tid x) (begun-awaits why q.aimed c.life (c.life.stands q.aimed.need.key))
@@ -198,6 +208,7 @@ made_joins aim tid r = record {
         aimed = p.aimed;
         is = p.is;
         made = p.made;
+        read = p.read;
         fine = p.fine;
         valid = p.valid;
         ages = p.ages;

@@ -1,16 +1,16 @@
 -- An access of a thread: begun by one call of the store, and made by another, or not.
 use Rattle.std.proofs.Common.{◌≡◌, ◌≤◌, ℕ, List, ◌++◌, Bool, true, false, Option, Some, refl, sym, ap, ◌∙◌, subst, arith}
-use Rattle.std.specs.Prelude.{count_by, ◌==◌}
+use Rattle.std.specs.Prelude.{count_by, ◌==◌, ◌&&◌}
 use Rattle.mm_types.specs.{Answer, Why, Move, Key, Pid, Place, Access, page_of}
 use Rattle.mm_types.proofs.{same_found}
 use Rattle.mm_move_rules.specs.{FrameLife, is_thread, Replays, Waiting, Idle, Walk, walked_all, Through, waits_through, ages_through, is_read_move}
 use Rattle.mm_move_rules.specs.{is_wrote_move, takes_frame}
-use Rattle.mm_world.specs.{Page, BeingRead, Attempt, access, access_of, done, OutcomeOf, Tables, world_with, Need, pending, need_at}
+use Rattle.mm_world.specs.{Page, BeingRead, Attempt, access, access_of, done, OutcomeOf, Tables, world_with, Need, pending, need_at, read_failed}
 use Rattle.mm_world.specs.Report.{Report}
-use Rattle.mm_store.specs.{StoreOf, changed, PassesIn, StandsIn, Aim, AccessMove, Starts, walk_from, place_at, waits_at_once, IsReady, started}
+use Rattle.mm_store.specs.{StoreOf, changed, PassesIn, StandsIn, Aim, AccessMove, ReadFails, Starts, walk_from, place_at, waits_at_once, IsReady, started}
 use Rattle.mm_store.specs.{Ghosts as PageStoreGhosts}
 use Rattle.mm_store.specs.Behind.{Behind}
-use Rattle.mm_store.proofs.{passes_then, waits_then, ages_then, accesses_then}
+use Rattle.mm_store.proofs.{passes_then, waits_then, ages_then, accesses_then, fails_then}
 use Rattle.mm_line_moves.specs.{is_failed, place_had, is_write}
 use Rattle.mm_dispatch.specs.{AnswersAccess, Answered, MadeBy, WaitsBy, Admits, Accessed, Refuses, AccessDone, ReadyFor, TurnsAccess, aim_for, row_need}
 use Rattle.mm_dispatch.specs.{IsFailure, TurnedBy, KeepsOver, PassesOver, aim_over, world_over}
@@ -78,6 +78,7 @@ module _ (aim later : Option Aim) (a : Aim) (is : aim ≡ Some a) (l : FrameLife
           one_read = omega (arith, reads, none, one);
           few_writes = omega (arith, wrote, takes, first_few, second_few);
         };
+        read = fails_then false xs ys s.read (subst (λ (f : Bool). ReadFails (f && read_failed second.need after) ys) fine answers.read);
         fine = fine;
         valid = answers.valid;
         ages =

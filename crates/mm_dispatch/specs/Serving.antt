@@ -81,12 +81,14 @@ FileWrites first pages _ old new blocks blocks' = (new ≡ old) × (blocks' ≡ 
 -- What is asked of devices beside the moves: a `file` line writes the blocks of its file, the
 -- lowest that no file used, and does not call the paging device; a `grow` line asks the paging
 -- device to grow, which stands in no log, and does not call the file device. Where it grew, it is
--- as before but for its slots.
+-- as before but for its slots; where it is `full`, it is not asked.
 abbrev pub AskedBeside : ℕ → Event → Answer → DeviceOf → DeviceOf → DeviceOf → DeviceOf →
     List Page → List Page → Type 0
 AskedBeside used (line.File name pages byte) a paging paging' files files' blocks blocks' =
     (paging' ≡ paging) × FileWrites used pages a files files' blocks blocks'
 AskedBeside used (line.Grow n) (answer.Limit limit) paging paging' files files' blocks blocks' =
+    (paging' ≡ paging) × (files' ≡ files)
+AskedBeside used (line.Grow n) answer.Full paging paging' files files' blocks blocks' =
     (paging' ≡ paging) × (files' ≡ files)
 AskedBeside used (line.Grow n) a paging paging' files files' blocks blocks' =
     (paging' ≡ called paging paging') × (files' ≡ files)

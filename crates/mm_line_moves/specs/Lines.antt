@@ -1,6 +1,6 @@
 -- What a line does to the life of the frames, by the worlds and the reports before and after it.
 -- Profile, "Which frame moves, and when".
-use Rattle.std.specs.Prelude.{◌≡◌, ◌≤◌, ◌<◌, ◌⊎◌, ℕ, ◌+◌, ◌-◌, ◌==◌, Bool, true, false, not, if◌then◌else◌, is_some, List, [], ◌∷◌, ◌++◌, length, map, replicate, slice_get, Option, Some, None, option_map, option_and_then, unwrap_or}
+use Rattle.std.specs.Prelude.{◌≡◌, ◌≤◌, ◌<◌, ◌⊎◌, ◌&&◌, ℕ, ◌+◌, ◌-◌, ◌==◌, Bool, true, false, not, if◌then◌else◌, is_some, List, [], ◌∷◌, ◌++◌, length, map, replicate, slice_get, Option, Some, None, option_map, option_and_then, unwrap_or}
 use Rattle.mm_types.specs.{Answer, Event, Held, Move, Frame, Key, Pid, Place, View, Kind, Range}
 use Rattle.mm_types.specs.declared.answers.Answer.TheVariants as answer
 use Rattle.mm_types.specs.declared.answers.Why.TheVariants as why
@@ -12,12 +12,12 @@ use Rattle.mm_types.specs.declared.views.Kind.TheVariants as view_kind
 use Rattle.mm_move_rules.specs.{record_at, FrameLife, is_live, numbers_from, counts_of, after_move, Grew, AreMoves, spelled_moves, Replays, Waiting, Idle}
 use Rattle.mm_move_rules.specs.{ForFrame, wait_of, waits_through, ages_through, walked_all, is_valid, Starved, all_aged, clearings, writes_begun}
 use Rattle.mm_world.specs.{Page, filled, KeptOf, RegionOf, Found, process_of, area_at, content_of, shared_key, flushed_view, flushed_range, BeingRead}
-use Rattle.mm_world.specs.{kept_by}
+use Rattle.mm_world.specs.{kept_by, read_failed}
 use Rattle.mm_world.specs.World.{World}
 use Rattle.mm_world.specs.Report.{Report}
 use Rattle.mm_devices.specs.{DeviceOf, Call, AllServed, logged_call, KeepsOthers}
-use Rattle.mm_store.specs.{changed, same_place, told_of, told_through, paging_traffic, file_traffic, Aim, AccessMoves, walk_from, Makes, MakesStack}
-use Rattle.mm_store.specs.{Turned, guard_told, Trims, Completes, leaving, where_of, block_at, backed_by, Goes}
+use Rattle.mm_store.specs.{changed, same_place, told_of, told_through, paging_traffic, file_traffic, Aim, AccessMoves, ReadFails, walk_from, Makes}
+use Rattle.mm_store.specs.{MakesStack, Turned, guard_told, Trims, Completes, leaving, where_of, block_at, backed_by, Goes}
 use Rattle.mm_store.specs.Behind.{Behind}
 use Rattle.mm_store.specs.Flushing.{Flushing}
 use Rattle.mm_line_moves.specs.Kinds.{row_key, file_block_of, kind_of_line, aim_of, lives}
@@ -71,11 +71,12 @@ is_pending_read (answer.Pending why.Read) = true
 is_pending_read _ = false
 
 -- what it leaves: a place that was had is valid; one that found no frame leaves hardly a place
--- valid; one that waits for a read has its page being read. A thread whose read failed while it
--- waited makes no move
+-- valid; one that waits for a read has its page being read. Where a read of its page failed, that
+-- was its last move. A thread whose read failed while it waited makes no move
 pub record Accesses (plain : Bool) (a : Aim) (r : Answer) (after : Report) (b : Behind)
     (moves : List Move) (c : Behind) : Type 0 where
   pub made : AccessMoves a b moves
+  pub read : ReadFails (plain && is_failed r && read_failed a.need after) moves
   pub still : plain ≡ false → is_failed r ≡ true → moves ≡ []
   pub valid : is_had r ≡ true → is_valid c.life a.place ≡ true
   pub awaited : is_pending_read r ≡ true → after.whereabouts a.need.key ≡ Some BeingRead

@@ -1,6 +1,6 @@
 -- Worked lines.
 -- Profile, "Logs of moves".
-use Rattle.std.specs.Prelude.{ℕ, true, false, List, [], ◌∷◌, take, replicate, unwrap_or, Some, None}
+use Rattle.std.specs.Prelude.{ℕ, true, false, List, [], ◌∷◌, ◌++◌, take, replicate, unwrap_or, Some, None}
 use Rattle.mm_types.specs.{Area, Key, Record, Move}
 use Rattle.mm_types.specs.declared.numbers.Key.TheVariants.{Shared}
 use Rattle.mm_types.specs.declared.frames.Request.TheVariants as request
@@ -97,6 +97,22 @@ page_awaited = record {
   writes = false;
   start = life_after 9 resumed_log;
 }
+
+-- a plain access of that page, whose read is in flight for the thread
+abbrev pub read_log : List Move
+read_log = take 6 resumed_log ++ move.At 5 (kind.Access (pid 1)) ∷ []
+
+abbrev pub page_being_read : Aim
+page_being_read = record page_awaited { start = life_after 7 read_log }
+
+-- its read fails; and one that begins then does not
+abbrev pub read_again : List Move
+read_again =
+    move.Bad (record { 0 = 0 })
+    ∷ move.Read (record { 0 = 1 }) (shared 0 0)
+    ∷ move.Got (record { 0 = 1 })
+    ∷ move.Map (record { 0 = 1 }) (place 1 16)
+    ∷ []
 
 -- a section of two pages, and one page of a process beside it
 abbrev pub section_log : List Move

@@ -14,6 +14,8 @@ ghost use Rattle.mm_types.specs.declared.codes.Raise.TheVariants as raise;
 ghost use Rattle.mm_world.specs.Report.{Report};
 ghost use Rattle.mm_store.specs.Behind.{Behind};
 ghost use Rattle.mm_line_moves.specs.{Accesses, page_awaited, resumed_log};
+ghost use Rattle.mm_line_moves.specs.{page_being_read, read_again, read_log};
+ghost use Rattle.mm_types.specs.{Answer};
 ghost use Rattle.mm_line_moves.specs.{behind_page, before_all, with_sections};
 
 /// The page that was trimmed is written to the lowest slot; its write, completed, is a call of the
@@ -134,4 +136,13 @@ pub fn failed_read_resumed()
         (behind_after 9 resumed_log) (move.Read (frame 1) (shared 0 0) ∷ []) c → ⊥ }
     ensures legal { is_some (replay_log (resumed_log ++
         (move.Read (frame 1) (shared 0 0) ∷ []))) ≡ true }
+{}
+
+/// An access whose read failed reads no page again, whatever it answers, though the moves would be
+/// legal.
+pub fn failed_read_is_last()
+    ensures never { (r : Answer) (after : Report) (c : Behind) →
+        Accesses true page_being_read r after (behind_after 7 read_log) read_again c → ⊥ }
+    ensures moves { AccessMoves page_being_read (behind_after 7 read_log) read_again }
+    ensures legal { is_some (replay_log (read_log ++ read_again)) ≡ true }
 {}

@@ -2,9 +2,9 @@
 use Rattle.std.proofs.Common.{◌≡◌, ℕ, ◌+◌, ◌≤◌, List, [], ◌∷◌, ◌++◌, refl, sym, ap, ◌∙◌, subst, arith, zero, suc, ◌-◌, Bool, true, false, Option, Some, None, length-set, length, ◌≢◌, inl, inr, ◌⊎◌}
 use Rattle.std.specs.Prelude.{count_by, not, is_some, slice_get, map, if◌then◌else◌, slice_set, slice_index_or}
 use Rattle.mm_types.specs.{Move, limit_of, MachineOf, Backing, Held, Frame, Key, Place, Direction, Record}
-use Rattle.mm_store.specs.{Aim, AccessMove, AccessMoves, touch, block_at, backed_by, in_backing, fetched, with_outcome, with_call, tallied, Served}
+use Rattle.mm_store.specs.{Aim, AccessMove, AccessMoves, ReadFails, touch, block_at, backed_by, in_backing, fetched, with_outcome, with_call, tallied, Served}
 use Rattle.mm_store.specs.{told_after, told_through, with_read, with_write, in_slot, in_block, call_of, calls_of}
-use Rattle.mm_store.proofs.{accesses_then, walked_then}
+use Rattle.mm_store.proofs.{accesses_then, fails_then, walked_then}
 use Rattle.mm_move_rules.specs.{Walk, Through, walked, walked_all, is_read_move, takes_frame, is_wrote_move, ResidentSet, record_at, FrameLife}
 use Rattle.mm_move_rules.specs.{with_resident, resident_by, is_live, is_dead, changed, same_key, key_of_place, after_move, after_unmap_at, Replays, is_on}
 use Rattle.mm_move_rules.specs.{SearchMove, FrameTable, blank, settled_by}
@@ -36,68 +36,70 @@ use Rattle.mm_move_rules.proofs.{records_settled}
 -- ---- pieces
 
 -- these moves are a piece
-abbrev pub piece_of : (a : Aim) (E : Walk → Type 0) (n p o : ℕ) (t : List ℕ) (ms : List Move) (s z : StateOf) → DoesMoves ms s z → Through (AccessMove a) (walk_at t s) ms → E (walked_all (walk_at t s) ms)
-    → count_by is_read_move ms ≤ n → count_by is_wrote_move ms + p ≤ count_by takes_frame ms + o → Piece a E n p o t s z
-piece_of a E n p o t ms s z d h e r w = record { moves = ms; does = d; each = h; ends = e; few_reads = r; few_writes = w }
+abbrev pub piece_of : (a : Aim) (E : Walk → Type 0) (b : Bool) (n p o : ℕ) (t : List ℕ) (ms : List Move) (s z : StateOf) → DoesMoves ms s z → Through (AccessMove a) (walk_at t s) ms → E (walked_all (walk_at t s) ms) → ReadFails b ms
+    → count_by is_read_move ms ≤ n → count_by is_wrote_move ms + p ≤ count_by takes_frame ms + o → Piece a E b n p o t s z
+piece_of a E b n p o t ms s z d h e x r w = record { moves = ms; does = d; each = h; ends = e; fails = x; few_reads = r; few_writes = w }
 
 -- it is one of fewer promises
-pub piece_as : (a : Aim) (E : Walk → Type 0) (m n p o q r : ℕ) (t : List ℕ) (s z : StateOf) → m ≤ n → q + o ≤ p + r → Piece a E m p o t s z → Piece a E n q r t s z
-piece_as a E m n p o q r t s z h l x =
+pub piece_as : {b : Bool} (a : Aim) (E : Walk → Type 0) (m n p o q r : ℕ) (t : List ℕ) (s z : StateOf) → m ≤ n → q + o ≤ p + r → Piece a E b m p o t s z → Piece a E b n q r t s z
+piece_as {b = b} a E m n p o q r t s z h l x =
     let reads = x.few_reads in
     let writes = x.few_writes in
-    piece_of a E n q r t x.moves s z x.does x.each x.ends (omega (arith, reads, h)) (omega (arith, writes, l))
+    piece_of a E b n q r t x.moves s z x.does x.each x.ends x.fails (omega (arith, reads, h)) (omega (arith, writes, l))
 
 -- wherever it ends
-pub piece_anywhere : (a : Aim) (E : Walk → Type 0) (n : ℕ) (s z : StateOf) → Piece a E n 0 0 [] s z → Piece a Anywhere n 0 0 [] s z
-piece_anywhere a E n s z x = piece_of a Anywhere n 0 0 [] x.moves s z x.does x.each tt x.few_reads x.few_writes
+pub piece_anywhere : {b : Bool} (a : Aim) (E : Walk → Type 0) (n : ℕ) (s z : StateOf) → Piece a E b n 0 0 [] s z → Piece a Anywhere b n 0 0 [] s z
+piece_anywhere {b = b} a E n s z x = piece_of a Anywhere b n 0 0 [] x.moves s z x.does x.each tt x.fails x.few_reads x.few_writes
 
-pub piece_then : (a : Aim) (E F : Walk → Type 0) (m p o n q r : ℕ) (s y z : StateOf) (x : Piece a E m p o [] s y) → Piece a F n q r (walked_all (walk_of s) x.moves).tried y z → Piece a F (m + n) (p + q) (o + r) [] s z
-piece_then a E F m p o n q r s y z x w =
+pub piece_then : {b : Bool} (a : Aim) (E F : Walk → Type 0) (m p o n q r : ℕ) (s y z : StateOf) (x : Piece a E false m p o [] s y) → Piece a F b n q r (walked_all (walk_of s) x.moves).tried y z → Piece a F b (m + n) (p + q) (o + r) [] s z
+piece_then {b = b} a E F m p o n q r s y z x w =
     let at = walked_here x.moves s y x.does in
     let reads = x.few_reads in
     let more_reads = w.few_reads in
     let writes = x.few_writes in
     let more_writes = w.few_writes in
-    piece_of a F (m + n) (p + q) (o + r) [] (x.moves ++ w.moves) s z (does_then x.moves w.moves s y z x.does w.does)
+    piece_of a F b (m + n) (p + q) (o + r) [] (x.moves ++ w.moves) s z (does_then x.moves w.moves s y z x.does w.does)
     (accesses_then a x.moves w.moves (walk_of s) x.each (subst (λ (v : Walk). Through (AccessMove a) v w.moves) (sym at) w.each))
     (subst F (sym (walked_then x.moves w.moves (walk_of s) ∙ ap (λ (v : Walk). walked_all v w.moves) at)) w.ends)
+    (fails_then b x.moves w.moves x.fails w.fails)
     (omega (arith, reads, more_reads, count-append is_read_move x.moves w.moves))
     (omega (arith, writes, more_writes, count-append is_wrote_move x.moves w.moves, count-append takes_frame x.moves w.moves))
 
-pub went_then : (a : Aim) (E : Walk → Type 0) (m n : ℕ) (s t z : StateOf) → Went a m s t → Piece a E n 0 0 [] t z → Piece a E (m + n) 0 0 [] s z
-went_then a E m n s t z p q = piece_then a IsFresh E m 0 0 n 0 0 s t z p (subst (λ (u : List ℕ). Piece a E n 0 0 u t z) (sym p.ends) q)
+pub went_then : {b : Bool} (a : Aim) (E : Walk → Type 0) (m n : ℕ) (s t z : StateOf) → Went a m s t → Piece a E b n 0 0 [] t z → Piece a E b (m + n) 0 0 [] s z
+went_then {b = b} a E m n s t z p q = piece_then a IsFresh E m 0 0 n 0 0 s t z p (subst (λ (u : List ℕ). Piece a E b n 0 0 u t z) (sym p.ends) q)
 
 -- a frame is found, and taken
-pub sought_then : (a : Aim) (E : Walk → Type 0) (n : ℕ) (s t z : StateOf) → Sought a s t → TakesFrame a E n t z → Piece a E n 0 0 [] s z
+pub sought_then : {b : Bool} (a : Aim) (E : Walk → Type 0) (n : ℕ) (s t z : StateOf) → Sought a s t → TakesFrame a E b n t z → Piece a E b n 0 0 [] s z
 sought_then a E n s t z p q = piece_as a E (0 + n) n 1 1 0 0 [] s z (omega arith) (omega arith) (piece_then a Anywhere E 0 0 1 n 1 0 s t z p (q (walked_all (walk_of s) p.moves).tried))
 
 -- a frame is taken that was there
-pub took_at_once : (a : Aim) (E : Walk → Type 0) (n : ℕ) (s z : StateOf) → TakesFrame a E n s z → Piece a E n 0 0 [] s z
+pub took_at_once : {b : Bool} (a : Aim) (E : Walk → Type 0) (n : ℕ) (s z : StateOf) → TakesFrame a E b n s z → Piece a E b n 0 0 [] s z
 took_at_once a E n s z q = piece_as a E n n 1 0 0 0 [] s z (omega arith) (omega arith) (q [])
 
 pub went_nothing : (a : Aim) (reads : ℕ) (s : StateOf) → Went a reads s s
-went_nothing a reads s = piece_of a IsFresh reads 0 0 [] [] s s (does_nothing s) tt refl (omega arith) (omega arith)
+went_nothing a reads s = piece_of a IsFresh false reads 0 0 [] [] s s (does_nothing s) tt refl refl (omega arith) (omega arith)
 
 -- one move, which is none of a device
-pub went_one : (a : Aim) (x : Move) (s z : StateOf) → Made x s z → AccessMove a (walk_at [] s) x [] → IsFresh (walked (walk_at [] s) x) → count_by is_read_move (x ∷ []) ≤ 0 → count_by is_wrote_move (x ∷ []) + 0 ≤ count_by takes_frame (x ∷ []) + 0 → Went a 0 s z
-went_one a x s z m h e r w = piece_of a IsFresh 0 0 0 [] (x ∷ []) s z (does_one x s z m) (h, tt) e r w
+pub went_one : (a : Aim) (x : Move) (s z : StateOf) → Made x s z → AccessMove a (walk_at [] s) x [] → IsFresh (walked (walk_at [] s) x) → ReadFails false (x ∷ []) → count_by is_read_move (x ∷ []) ≤ 0 → count_by is_wrote_move (x ∷ []) + 0 ≤ count_by takes_frame (x ∷ []) + 0 → Went a 0 s z
+went_one a x s z m h e b r w = piece_of a IsFresh false 0 0 0 [] (x ∷ []) s z (does_one x s z m) (h, tt) e b r w
 
 -- a move in front, of which a search learns nothing
-unfoldable pub move_front : (a : Aim) (E : Walk → Type 0) (x : Move) (n : ℕ) (s y z : StateOf) → Made x s y → ((t : List ℕ) → (walked (walk_at t s) x).tried ≡ t) → count_by is_read_move (x ∷ []) ≡ 0 → count_by is_wrote_move (x ∷ []) ≡ 0
-    → (q : TakesFrame a E n y z) → ((t : List ℕ) → AccessMove a (walk_at t s) x (q t).moves) → TakesFrame a E n s z
-move_front a E x n s y z m e r w q h = λ t.
+unfoldable pub move_front : {b : Bool} (a : Aim) (E : Walk → Type 0) (x : Move) (n : ℕ) (s y z : StateOf) → Made x s y → ((t : List ℕ) → (walked (walk_at t s) x).tried ≡ t) → ReadFails false (x ∷ []) → count_by is_read_move (x ∷ []) ≡ 0 → count_by is_wrote_move (x ∷ []) ≡ 0
+    → (q : TakesFrame a E b n y z) → ((t : List ℕ) → AccessMove a (walk_at t s) x (q t).moves) → TakesFrame a E b n s z
+move_front {b = b} a E x n s y z m e fine r w q h = λ t.
     let p = q t in
     let reads = p.few_reads in
     let writes = p.few_writes in
     let at : walked (walk_at t s) x ≡ walk_at t y = λ i. record { life = sym m.life i; ages = sym m.ages i; tried = e t i } in
-    piece_of a E n 1 0 t (x ∷ p.moves) s z (does_then (x ∷ []) p.moves s y z (does_one x s y m) p.does) (h t, subst (λ (v : Walk). Through (AccessMove a) v p.moves) (sym at) p.each)
+    piece_of a E b n 1 0 t (x ∷ p.moves) s z (does_then (x ∷ []) p.moves s y z (does_one x s y m) p.does) (h t, subst (λ (v : Walk). Through (AccessMove a) v p.moves) (sym at) p.each)
     (subst (λ (v : Walk). E (walked_all v p.moves)) (sym at) p.ends)
+    (fails_then b (x ∷ []) p.moves fine p.fails)
     (omega (arith, reads, r, count-append is_read_move (x ∷ []) p.moves))
     (omega (arith, writes, w, count-append is_wrote_move (x ∷ []) p.moves, count-append takes_frame (x ∷ []) p.moves))
 
 -- ---- as the boundary tells it
 
-pub made_by : (a : Aim) (E : Walk → Type 0) (n : ℕ) (s z : StateOf) (x : Piece a E n 0 0 [] s z) → n ≤ 1 → AccessMoves a (behind_of s) x.moves
+pub made_by : {b : Bool} (a : Aim) (E : Walk → Type 0) (n : ℕ) (s z : StateOf) (x : Piece a E b n 0 0 [] s z) → n ≤ 1 → AccessMoves a (behind_of s) x.moves
 made_by a E n s z x h =
     let reads = x.few_reads in
     let writes = x.few_writes in
@@ -175,7 +177,7 @@ kept_all a (x ∷ xs) w m c h r = kept_then w.life (after_move w.life x) m (kept
 abbrev pub aim_at : Bool → Key → Place → StateOf → Aim
 aim_at w k place s = record { place = place; need = touch k; writes = w; start = s.life }
 
-pub piece_life : (a : Aim) (E : Walk → Type 0) (n p o : ℕ) (s z : StateOf) → a.need.copy ≡ None → Piece a E n p o [] s z → LifeKept s.life z.life
+pub piece_life : {b : Bool} (a : Aim) (E : Walk → Type 0) (n p o : ℕ) (s z : StateOf) → a.need.copy ≡ None → Piece a E b n p o [] s z → LifeKept s.life z.life
 piece_life a E n p o s z c x = kept_all a x.moves (walk_of s) z.life c x.each x.does.replays
 
 -- ---- blocks of keys

@@ -123,6 +123,7 @@ went_bytes a n s v c w = record {
   };
   each = w.each;
   ends = w.ends;
+  fails = w.fails;
   few_reads = w.few_reads;
   few_writes = w.few_writes;
 }
@@ -208,9 +209,9 @@ may_copy k f place s t h m p =
 -- ---- A copy comes to be beside the tables, and gets a frame
 
 -- a frame is zeroed first
-took_added : (a : Aim) (k : Key) (f : Frame) (s x y z : StateOf) → Readies s x → Made (move.Add k None) x y → a.need.copy ≡ Some k → f ≡ front y.life.frames.zeroed → Made (move.Give f k) y z → TookFrame a 0 s z
-took_added a k f s x y z r m c q g = took_ready a IsFresh 0 s x z r
-    (λ t. piece_of a IsFresh 0 1 0 t (move.Add k None ∷ move.Give f k ∷ []) x z (does_two (move.Add k None) (move.Give f k) x y z m g) ((c, (f, refl)), (inr c, tt)) refl (omega arith) (omega arith))
+took_added : (a : Aim) (k : Key) (f : Frame) (s x y z : StateOf) → Readies s x → Made (move.Add k None) x y → a.need.copy ≡ Some k → is_some (x.life.valid a.place) ≡ true → f ≡ front y.life.frames.zeroed → Made (move.Give f k) y z → TookFrame a 0 s z
+took_added a k f s x y z r m c v q g = took_ready a IsFresh 0 s x z r
+    (λ t. piece_of a IsFresh false 0 1 0 t (move.Add k None ∷ move.Give f k ∷ []) x z (does_two (move.Add k None) (move.Give f k) x y z m g) ((c, v, (f, refl)), (inr c, tt)) refl refl (omega arith) (omega arith))
     (λ t. q ∙ ap (λ (l : FrameLife). front l.frames.zeroed) m.life)
 
 copy_life : (k : Key) (f : Frame) (s x y z : StateOf) → StateHolds s → Readies s x → Made (move.Add k None) x y → Made (move.Give f k) y z → KeyAdded k s.life z.life
@@ -225,7 +226,7 @@ copy_given place f s x y z beside h hz r m e aside first g w quiet =
     let ready = readied_ready s x h r in
     let gave = gives k f y y z (ready_now y) g w quiet (λ a o. went_give a f k y y z (Zeroed refl) first g o) in
     record {
-      took = λ a c. took_added a k f s x y z r m c first g;
+      took = λ a p c v. took_added a k f s x y z r m c (ap (λ (q : Place). is_some (x.life.valid q)) p ∙ ap (λ (h : Place → Option Frame). is_some (h place)) ready.valid ∙ v) first g;
       life = copy_life k f s x y z h r m g;
       valid = gave.valid ∙ ap (λ (l : FrameLife). l.valid) m.life ∙ ready.valid;
       names = gave.beside place aside refl ∙ ap (λ (u : StateOf). u.names) e ∙ ap (λ (u : StateOf). u.names) ready.rest;
@@ -313,8 +314,8 @@ went_put : (a : Aim) (place : Place) (f : Frame) (s y z : StateOf) → a.place �
 went_put a place f s y z e c shows i u m =
     let live = in_frame_live (key_of_place place) f s i in
     let copied = ap (λ (o : Option Key). unwrap_or (option_map (λ k. is_live s.life k) o) false) c ∙ live in
-    piece_of a IsFresh 0 0 0 [] (move.Unmap place ∷ move.Map f place ∷ []) s z (does_two (move.Unmap place) (move.Map f place) s y z u m)
-    (ByCopy (sym e) copied shows (f, ap (λ (x : Place). move.Map f x) (sym e)), (sym e, tt)) refl (omega arith) (omega arith)
+    piece_of a IsFresh false 0 0 0 [] (move.Unmap place ∷ move.Map f place ∷ []) s z (does_two (move.Unmap place) (move.Map f place) s y z u m)
+    (ByCopy (sym e) copied shows (f, ap (λ (x : Place). move.Map f x) (sym e)), (sym e, tt)) refl refl (omega arith) (omega arith)
 
 -- ---- what stays
 

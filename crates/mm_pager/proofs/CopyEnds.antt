@@ -49,7 +49,7 @@ module _ (k : Key) (f : Frame) (place : Place) (s t : StateOf) (r : Readied k f 
   }
 
   -- what is done then stands behind it
-  page_then : (E : Aim → Walk → Type 0) (q : ℕ) → most_reads (s.life.valid place) ≤ q → StateHolds t → s.contents (key_of_place place) ≡ None → (z : StateOf) → ((a : Aim) → Pins a place f t → Piece a (E a) 0 0 0 [] t z) → (a : Aim) → CopiesFrom a k place s → Piece a (E a) q 0 0 [] s z
+  page_then : (E : Aim → Walk → Type 0) (q : ℕ) → most_reads (s.life.valid place) ≤ q → StateHolds t → s.contents (key_of_place place) ≡ None → (z : StateOf) → ((a : Aim) → Pins a place f t → Piece a (E a) false 0 0 0 [] t z) → (a : Aim) → CopiesFrom a k place s → Piece a (E a) false q 0 0 [] s z
   page_then E q few ht dead z h a c =
       let n = most_reads (s.life.valid place) in
       piece_as a (E a) (n + 0) q 0 0 0 0 [] s z (omega (arith, few)) (omega arith) (went_then a (E a) n 0 s t z (r.went a c.reaches) (h a (pins_then ht dead a c)))
@@ -190,6 +190,7 @@ copy_passes k place s z o u h went c =
     passes_of _ w.moves s z o u w.does (record {
       ends = record {
         made = made_by (copy_aim k place s) IsFresh (most_reads (s.life.valid place)) s z w (few_reads (s.life.valid place));
+        read = w.fails;
         waits = w.does.waits;
         valid = c.valid;
         ages = young_still z.ages place 0 c.young ∙ ap (λ (g : Place → ℕ). changed same_place g place 0) w.does.ages;
@@ -202,7 +203,7 @@ pub failed_passes : (e : PageFault) (k : Key) (place : Place) (s z : StateOf) (o
 failed_passes e k place s z o u h p =
     let w = p.stuck (copy_aim k place s) (aims k place s) in
     passes_of _ w.moves s z o u w.does (record {
-      ends = record { made = made_by (copy_aim k place s) (HasTried (copy_aim k place s) e z) 1 s z w (omega arith); waits = w.does.waits; ages = w.does.ages; starved = w.ends };
+      ends = record { made = made_by (copy_aim k place s) (HasTried (copy_aim k place s) e z) 1 s z w (omega arith); read = w.fails; waits = w.does.waits; ages = w.does.ages; starved = w.ends };
       calm = λ r. absurd (never_unready place k s o h r p.unready);
     })
 

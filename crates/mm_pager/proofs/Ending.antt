@@ -8,7 +8,7 @@ use Rattle.mm_move_rules.specs.{without_slot, same_key, counts_of, is_active, is
 use Rattle.mm_world.specs.{same_key as same_in_world, has_frame, still_needs_frame, read_failed, search_failed, is_short as report_is_short}
 use Rattle.mm_world.specs.{BeingRead, InFrame, filled, written}
 use Rattle.mm_world.specs.Report.{Report}
-use Rattle.mm_store.specs.{Touches, touch, IsReady, IsBegun, is_framed, where_of, framed_where, Passes, Aim, AccessMove, Served, fetched, StoreOf, key_written}
+use Rattle.mm_store.specs.{Touches, touch, IsReady, IsBegun, is_framed, where_of, framed_where, Passes, Aim, AccessMove, Served, fetched, StoreOf, is_read_fault, key_written}
 use Rattle.mm_store.specs.{eased, block_at, backed_by, in_backing}
 use Rattle.mm_store.specs.Reports.{Ends}
 use Rattle.mm_state_calls.specs.{StateOf, StateHolds, walk_of, moved, moved_with_call}
@@ -71,7 +71,7 @@ search_failed_by f s still short a b c d = grind (arith, a, b, c, d)
 pub valid_passes : (w : Bool) (k : Key) (place : Place) (s z : StateOf) (o : OwnOf) (c : Key → Option (List ℕ)) → is_some (s.life.valid place) ≡ true → z ≡ record s { ages = changed same_place s.ages place 0; contents = c }
     → Passes (Touches {T = Unit {0}} (record { place = place; need = touch k; writes = w; start = s.life }) (IsReady (store_of s o) place (touch k)) (Ok tt)) (store_of s o) (store_of z o) (behind_of s) (behind_of z)
 valid_passes w k place s z o c v e = none_passes _ s z o o c (changed same_place s.ages place 0) s.waits e (record {
-  ends = record { made = record { each = tt; one_read = omega arith; few_writes = omega arith }; waits = refl; valid = v; ages = refl };
+  ends = record { made = record { each = tt; one_read = omega arith; few_writes = omega arith }; read = refl; waits = refl; valid = v; ages = refl };
   calm = λ r. tt;
 })
 
@@ -98,24 +98,24 @@ in_line a (move.At n k ∷ ms) w h = h.0
 in_line a (m ∷ ms) w h = in_line a ms _ h.1
 
 -- moves of an access of a page that makes no copy, which change what calls of devices change, and names
-pub record Moves (w : Bool) (k : Key) (place : Place) (s y : StateOf) : Type 0 where
-  pub piece : Piece (aim_at w k place s) Anywhere 1 0 0 [] s y
+pub record Moves (failed w : Bool) (k : Key) (place : Place) (s y : StateOf) : Type 0 where
+  pub piece : Piece (aim_at w k place s) Anywhere failed 1 0 0 [] s y
   pub same : IsCalledOn s y
 
-pub of_went : (w : Bool) (k : Key) (place : Place) (s y : StateOf) → s.life.valid place ≡ None → ((a : Aim) → a.place ≡ place → a.writes ≡ w → AccessBegins a k s → Went a 1 s y) → IsCalledOn s y → Moves w k place s y
+pub of_went : (w : Bool) (k : Key) (place : Place) (s y : StateOf) → s.life.valid place ≡ None → ((a : Aim) → a.place ≡ place → a.writes ≡ w → AccessBegins a k s → Went a 1 s y) → IsCalledOn s y → Moves false w k place s y
 of_went w k place s y e h same = record { piece = piece_anywhere (aim_at w k place s) IsFresh 1 s y (h (aim_at w k place s) refl refl (record { needs = refl; from = refl; at = e })); same = same }
 
 -- the same of a page that is written, and is no copy
-pub of_wrote : (k : Key) (place : Place) (s y : StateOf) → s.life.valid place ≡ None → ((a : Aim) → a.place ≡ place → a.writes ≡ true → a.need.copy ≡ None → AccessBegins a k s → Went a 1 s y) → IsCalledOn s y → Moves true k place s y
+pub of_wrote : (k : Key) (place : Place) (s y : StateOf) → s.life.valid place ≡ None → ((a : Aim) → a.place ≡ place → a.writes ≡ true → a.need.copy ≡ None → AccessBegins a k s → Went a 1 s y) → IsCalledOn s y → Moves false true k place s y
 of_wrote k place s y e h same = record { piece = piece_anywhere (aim_at true k place s) IsFresh 1 s y (h (aim_at true k place s) refl refl refl (record { needs = refl; from = refl; at = e })); same = same }
 
-pub of_stuck : (w : Bool) (why : PageFault) (k : Key) (place : Place) (s y : StateOf) → s.life.valid place ≡ None → FailsToBring k why s y → Moves w k place s y
+pub of_stuck : (w : Bool) (why : PageFault) (k : Key) (place : Place) (s y : StateOf) → s.life.valid place ≡ None → FailsToBring k why s y → Moves (is_read_fault why) w k place s y
 of_stuck w why k place s y e h = record { piece = piece_anywhere (aim_at w k place s) (HasTried (aim_at w k place s) why y) 1 s y (h.stuck (aim_at w k place s) (record { needs = refl; from = refl; at = e })); same = called_on s y h.fails.same }
 
-pub piece_served : (a : Aim) (E : Walk → Type 0) (n : ℕ) (s y : StateOf) (o u : OwnOf) → Piece a E n 0 0 [] s y → Served (store_of s o) (store_of y u)
+pub piece_served : {b : Bool} (a : Aim) (E : Walk → Type 0) (n : ℕ) (s y : StateOf) (o u : OwnOf) → Piece a E b n 0 0 [] s y → Served (store_of s o) (store_of y u)
 piece_served a E n s y o u x = served_by x.moves s y o u (in_line a x.moves (walk_of s) x.each) x.does
 
-module _ (w : Bool) (k : Key) (place : Place) (s y : StateOf) (o u : OwnOf) (m : Moves w k place s y) where
+module _ {failed : Bool} (w : Bool) (k : Key) (place : Place) (s y : StateOf) (o u : OwnOf) (m : Moves failed w k place s y) where
   pub served_in : Served (store_of s o) (store_of y u)
   served_in = piece_served (aim_at w k place s) Anywhere 1 s y o u m.piece
 
@@ -157,9 +157,9 @@ abbrev IsOf : {T : Type 0} → Bool → Key → Place → StateOf → OwnOf → 
 IsOf w k place s o z u IsNow r = Passes (Touches (aim_at w k place s) IsNow r) (store_of s o) (store_of z u) (behind_of s) (behind_of z)
 
 pub went_passes : (w : Bool) (k : Key) (place : Place) (s y z : StateOf) (o u : OwnOf) (c : Key → Option (List ℕ)) (IsNow : Type 0) → s.life.valid place ≡ None → (IsNow → is_some (s.life.valid place) ≡ true)
-    → Moves w k place s y → is_some (y.life.valid place) ≡ true → z ≡ record y { ages = changed same_place y.ages place 0; contents = c } → IsOf {T = Unit {0}} w k place s o z u IsNow (Ok tt)
+    → Moves false w k place s y → is_some (y.life.valid place) ≡ true → z ≡ record y { ages = changed same_place y.ages place 0; contents = c } → IsOf {T = Unit {0}} w k place s o z u IsNow (Ok tt)
 went_passes w k place s y z o u c IsNow none now m v e = passes_beside _ m.piece.moves s y z o u y.bound y.names c (changed same_place y.ages place 0) y.waits m.piece.does e (record {
-  ends = record { made = made_by (aim_at w k place s) Anywhere 1 s y m.piece (omega arith); waits = m.piece.does.waits; valid = v; ages = ap (λ (g : Place → ℕ). changed same_place g place 0) m.piece.does.ages };
+  ends = record { made = made_by (aim_at w k place s) Anywhere 1 s y m.piece (omega arith); read = m.piece.fails; waits = m.piece.does.waits; valid = v; ages = ap (λ (g : Place → ℕ). changed same_place g place 0) m.piece.does.ages };
   calm = λ r. absurd (not_here (s.life.valid place) none (now r));
 })
 
@@ -167,7 +167,7 @@ pub stuck_passes : (w : Bool) (why : PageFault) (k : Key) (place : Place) (s z :
 stuck_passes w why k place s z o u IsNow none now h =
     let p = h.stuck (aim_at w k place s) (record { needs = refl; from = refl; at = none }) in
     passes_of _ p.moves s z o u p.does (record {
-      ends = record { made = made_by (aim_at w k place s) (HasTried (aim_at w k place s) why z) 1 s z p (omega arith); waits = p.does.waits; ages = p.does.ages; starved = p.ends };
+      ends = record { made = made_by (aim_at w k place s) (HasTried (aim_at w k place s) why z) 1 s z p (omega arith); read = p.fails; waits = p.does.waits; ages = p.does.ages; starved = p.ends };
       calm = λ r. absurd (not_here (s.life.valid place) none (now r));
     })
 
@@ -175,7 +175,7 @@ stuck_passes w why k place s z o u IsNow none now h =
 
 pub went_soil : (a : Aim) (f : Frame) (s z : StateOf) → a.writes ≡ true → s.life.valid a.place ≡ Some f → (record_at s.life.frames f.0).owner ≡ Some (key_written a.need) → Soils f s z → Went a 0 s z
 went_soil a f s z w v has (Was e) = subst (λ (x : StateOf). Went a 0 s x) (sym e) (went_nothing a 0 s)
-went_soil a f s z w v has (Is m e) = went_one a (move.Soil f) s z m (w, v, has) refl (omega arith) (omega arith)
+went_soil a f s z w v has (Is m e) = went_one a (move.Soil f) s z m (w, v, has) refl refl (omega arith) (omega arith)
 
 -- how an access that faulted and was had ends
 pub faulted_ends : (k : Key) (s y z : StateOf) (o : OwnOf) (x : Option Bool) (a : Place → ℕ) (c : Key → Option (List ℕ)) → z ≡ record y { ages = a; contents = c } → y.told.last_failed_read ≡ s.told.last_failed_read → is_framed (y.life.stands k) ≡ true → IsBegun (report_of s o)
@@ -285,6 +285,7 @@ wrote_passes k f place s y z o c v has (Is m e) q =
     passes_beside _ (move.Soil f ∷ []) s y z o o y.bound y.names c (changed same_place y.ages place 0) y.waits d q (record {
       ends = record {
         made = record { each = ((refl, v, has), tt); one_read = omega arith; few_writes = omega arith };
+        read = refl;
         waits = d.waits;
         valid = ap (λ (l : FrameLife). is_some (l.valid place)) m.life ∙ ap is_some v;
         ages = ap (λ (g : Place → ℕ). changed same_place g place 0) d.ages;

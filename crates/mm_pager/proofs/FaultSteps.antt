@@ -1,6 +1,6 @@
 -- The steps of a fault, from what their pieces promise.
 use Rattle.std.proofs.Common.{◌≡◌, ℕ, Bool, true, false, List, [], ◌∷◌, Option, Some, None, refl, sym, ap, ◌∙◌, subst, arith, inl}
-use Rattle.std.specs.Prelude.{◌&&◌, ◌||◌, not, if◌then◌else◌, ◌==◌, option_map, unwrap_or}
+use Rattle.std.specs.Prelude.{◌&&◌, ◌||◌, not, is_some, if◌then◌else◌, ◌==◌, option_map, unwrap_or}
 use Rattle.mm_move_rules.specs.{is_access, is_on, FrameLife, same_place, is_live, is_dead, key_of_place, is_short, after_move, after_unmap_at, Replays}
 use Rattle.mm_move_rules.specs.{Walk, Through, walked, walked_all, SearchMove, Starved, IsVictim, may_go, is_unpinned, record_at, is_read, changed}
 use Rattle.mm_move_rules.specs.{is_stored, is_zero, fits_place}
@@ -9,7 +9,7 @@ use Rattle.mm_types.specs.{Held, Move, Frame, Key, Place, PageFault}
 use Rattle.mm_types.specs.declared.moves.Move.TheVariants as move
 use Rattle.mm_types.specs.declared.moves.Stored.TheVariants as stored
 use Rattle.mm_world.specs.{Need, Tally}
-use Rattle.mm_store.specs.{Aim, AccessMove, InShortage, is_framed, is_shortage, no_calls}
+use Rattle.mm_store.specs.{Aim, AccessMove, ReadFails, InShortage, is_framed, is_shortage, no_calls}
 use Rattle.mm_state_calls.specs.{StateOf, Searched, walk_of, IsFlightOf, Made, moved, moved_with_call, names_after_give, StateHolds}
 use Rattle.mm_pager.specs.{Anywhere, HasTried, Sought, Stuck, AccessBegins, Causes, KeepsButNames, Fails, LifeKept, Pins, TookFrame, IsFresh, IsFor}
 use Rattle.mm_pager.specs.{ReadsFor, InQuietFrame, GivesFrame, FindsNone, Frees, Brings, FailsToBring, Faulted, PutsAtPlace, Went}
@@ -79,12 +79,12 @@ search_left pin found s z h = left_all pin s.life.flight h.moves (walk_of s) z.l
 
 -- ---- each move is one of the access
 
-module _ (pin : Option Frame) (a : Aim) (stands : Key → Held) (wants : (l : FrameLife) → l.stands ≡ stands → is_short l ≡ true → is_shortage a.need l ≡ true) where
+module _ (pin : Option Frame) (a : Aim) (stands : Key → Held) (wants : (l : FrameLife) → l.stands ≡ stands → l.valid a.place ≡ pin → is_short l ≡ true → is_shortage a.need a.place l ≡ true) where
   access_one : (w : Walk) (m : Move) (ms : List Move) → w.life.stands ≡ stands → w.life.valid a.place ≡ pin → SearchMove pin a.start.flight w m ms → AccessMove a w m ms
-  access_one w (move.Write f s) ms e v h = (wants w.life e h.0, h.1, h.2)
+  access_one w (move.Write f s) ms e v h = (wants w.life e v h.0, h.1, h.2)
   access_one w (move.Wrote f) ms e v h = h
   access_one w (move.Lost f) ms e v h = h
-  access_one w (move.Unmap p) ms e v h = InShortage (wants w.life e h.0) h.1 (subst (λ (o : Option Frame). IsVictim w.life w.ages o p) (sym v) h.2)
+  access_one w (move.Unmap p) ms e v h = InShortage (wants w.life e v h.0) h.1 (subst (λ (o : Option Frame). IsVictim w.life w.ages o p) (sym v) h.2)
   access_one w m ms e v h = absurd h
 
   access_all : (ms : List Move) (w : Walk) → w.life.stands ≡ stands → w.life.valid a.place ≡ pin → Through (SearchMove pin a.start.flight) w ms → Through (AccessMove a) w ms
@@ -95,25 +95,34 @@ module _ (pin : Option Frame) (a : Aim) (stands : Key → Held) (wants : (l : Fr
 
 -- a search that an access makes, of a page that wants a frame
 record Seeks (pin : Option Frame) (a : Aim) (s : StateOf) : Type 0 where
-  wants : (l : FrameLife) → l.stands ≡ s.life.stands → is_short l ≡ true → is_shortage a.need l ≡ true
+  wants : (l : FrameLife) → l.stands ≡ s.life.stands → l.valid a.place ≡ pin → is_short l ≡ true → is_shortage a.need a.place l ≡ true
   at : s.life.valid a.place ≡ pin
   flight : IsFlightOf a.start.flight pin s.life
 
 search_each : (pin : Option Frame) (a : Aim) (found : Bool) (s z : StateOf) → Seeks pin a s → (h : Searched pin found s z) → Through (AccessMove a) (walk_of s) h.moves
 search_each pin a found s z k h = access_all pin a s.life.stands k.wants h.moves (walk_of s) refl k.at (h.each a.start.flight k.flight)
 
+-- it reads no page
+none_fails : (pin : Option Frame) (flight : List ℕ) (ms : List Move) (w : Walk) → Through (SearchMove pin flight) w ms → ReadFails false ms
+none_fails pin flight [] w h = refl
+none_fails pin flight (move.Bad f ∷ ms) w h = absurd h.0
+none_fails pin flight (m ∷ ms) w h = none_fails pin flight ms (walked w m) h.1
+
+search_fine : (pin : Option Frame) (a : Aim) (found : Bool) (s z : StateOf) → Seeks pin a s → (h : Searched pin found s z) → ReadFails false h.moves
+search_fine pin a found s z k h = none_fails pin a.start.flight h.moves (walk_of s) (h.each a.start.flight k.flight)
+
 sought_in : (pin : Option Frame) (a : Aim) (s z : StateOf) → Seeks pin a s → Searched pin true s z → Sought a s z
 sought_in pin a s z k h =
     let none = h.no_read in
     let one = h.one in
-    piece_of a Anywhere 0 0 1 [] h.moves s z h.does (search_each pin a true s z k h) tt (omega (arith, none)) (omega (arith, one))
+    piece_of a Anywhere false 0 0 1 [] h.moves s z h.does (search_each pin a true s z k h) tt (search_fine pin a true s z k h) (omega (arith, none)) (omega (arith, one))
 
 stuck_in : (pin : Option Frame) (a : Aim) (s z : StateOf) → Seeks pin a s → Searched pin false s z → Stuck a fault.NoFrame 0 s z
 stuck_in pin a s z k h =
     let none = h.no_read in
     let lost = h.lost refl in
-    piece_of a (HasTried a fault.NoFrame z) 0 0 0 [] h.moves s z h.does (search_each pin a false s z k h)
-    (λ e. subst (λ (o : Option Frame). Starved o (walked_all (walk_of s) h.moves)) (sym ((search_left pin false s z h).valid a.place k.at)) (h.starved refl)) (omega (arith, none)) (omega (arith, lost))
+    piece_of a (HasTried a fault.NoFrame z) false 0 0 0 [] h.moves s z h.does (search_each pin a false s z k h)
+    (λ e. subst (λ (o : Option Frame). Starved o (walked_all (walk_of s) h.moves)) (sym ((search_left pin false s z h).valid a.place k.at)) (h.starved refl)) (search_fine pin a false s z k h) (omega (arith, none)) (omega (arith, lost))
 
 -- why nothing came of it, by the report
 pub search_causes : (pin : Option Frame) (k : Key) (s z : StateOf) → Searched pin false s z → Causes fault.NoFrame k s z
@@ -121,8 +130,8 @@ search_causes pin k s z h = record { read = λ e. cc; kept = λ e. h.read; short
 
 -- ---- without a pinned frame
 
-short_of : (n : Need) (l : FrameLife) → is_short l ≡ true → is_framed (l.stands n.key) ≡ false → is_shortage n l ≡ true
-short_of n l s f = at (is_short l) (is_framed (l.stands n.key)) _ s f
+short_of : (n : Need) (place : Place) (l : FrameLife) → is_short l ≡ true → is_framed (l.stands n.key) ≡ false → is_shortage n place l ≡ true
+short_of n place l s f = at (is_short l) (is_framed (l.stands n.key)) _ s f
   where
     at : (b c d : Bool) → b ≡ true → c ≡ false → (b && (not c || d)) ≡ true
     at true false d p q = refl
@@ -131,7 +140,7 @@ short_of n l s f = at (is_short l) (is_framed (l.stands n.key)) _ s f
 
 seeks_by : (a : Aim) (k : Key) (s : StateOf) → is_framed (s.life.stands k) ≡ false → AccessBegins a k s → Seeks None a s
 seeks_by a k s u b = record {
-  wants = λ l e h. short_of a.need l h (ap (λ (x : Key → Held). is_framed (x a.need.key)) e ∙ ap (λ (j : Key). is_framed (s.life.stands j)) b.needs ∙ u);
+  wants = λ l e v h. short_of a.need a.place l h (ap (λ (x : Key → Held). is_framed (x a.need.key)) e ∙ ap (λ (j : Key). is_framed (s.life.stands j)) b.needs ∙ u);
   at = b.at;
   flight = λ f h. inl (ap (λ (x : FrameLife). is_on f.0 x.flight) (sym b.from) ∙ h);
 }
@@ -161,8 +170,8 @@ search_keeps found s z h = let l = search_left None found s z h in record {
 copy_wanted : (o : Option Key) (k : Key) (l : FrameLife) → o ≡ Some k → is_live l k ≡ false → unwrap_or (option_map (λ k. not (is_live l k)) o) false ≡ true
 copy_wanted o k l e d = ap (λ (x : Option Key). unwrap_or (option_map (λ k. not (is_live l k)) x) false) e ∙ ap not d
 
-short_copy : (n : Need) (k : Key) (l : FrameLife) → is_short l ≡ true → n.copy ≡ Some k → is_live l k ≡ false → is_shortage n l ≡ true
-short_copy n k l s e d = at (is_short l) (is_framed (l.stands n.key)) _ s (copy_wanted n.copy k l e d)
+short_copy : (n : Need) (place : Place) (f : Frame) (k : Key) (l : FrameLife) → is_short l ≡ true → l.valid place ≡ Some f → n.copy ≡ Some k → is_live l k ≡ false → is_shortage n place l ≡ true
+short_copy n place f k l s v e d = at (is_short l) (is_framed (l.stands n.key)) _ s (λ i. is_some (v i) && copy_wanted n.copy k l e d i)
   where
     at : (b c x : Bool) → b ≡ true → x ≡ true → (b && (not c || x)) ≡ true
     at true true x p q = q
@@ -171,7 +180,7 @@ short_copy n k l s e d = at (is_short l) (is_framed (l.stands n.key)) _ s (copy_
 
 seeks_pinned : (a : Aim) (place : Place) (f : Frame) (s : StateOf) → Pins a place f s → Seeks (Some f) a s
 seeks_pinned a place f s p = record {
-  wants = λ l e h. short_copy a.need (key_of_place place) l h p.copy (ap (λ (x : Key → Held). not (is_dead (x (key_of_place place)))) e ∙ p.dead);
+  wants = λ l e v h. short_copy a.need a.place f (key_of_place place) l h v p.copy (ap (λ (x : Key → Held). not (is_dead (x (key_of_place place)))) e ∙ p.dead);
   at = ap s.life.valid p.at ∙ p.valid;
   flight = p.flight;
 }
@@ -247,7 +256,7 @@ zero_unframed h e = refl
 -- a read of it ends
 pub brings_settled : (k : Key) (f : Frame) (s z : StateOf) → StateHolds s → s.life.stands k ≡ held.Frame f → Made (move.Got f) s z → z ≡ moved_with_call s z → is_read (record_at z.life.frames f.0).request ≡ false → Brings k f s z
 brings_settled k f s z h e m same quiet = record {
-  went = λ a b. piece_of a IsFresh 1 0 0 [] (move.Got f ∷ []) s z (does_one (move.Got f) s z m) (h.owner k f e ∙ ap (λ (x : Key). Some x) (sym b.needs), tt) refl (omega arith) (omega arith);
+  went = λ a b. piece_of a IsFresh false 1 0 0 [] (move.Got f ∷ []) s z (does_one (move.Got f) s z m) (h.owner k f e ∙ ap (λ (x : Key). Some x) (sym b.needs), tt) refl refl (omega arith) (omega arith);
   keeps = keeps_called s z (ap (λ (l : FrameLife). l.kind) m.life) (ap (λ (l : FrameLife). l.valid) m.life) same;
   calm = got_calm f s z m;
   names = λ place v n. ap (λ (x : StateOf). changed same_place x.names place v) same;
@@ -257,7 +266,7 @@ brings_settled k f s z h e m same quiet = record {
 
 pub settling_fails : (k : Key) (f : Frame) (s z : StateOf) → StateHolds s → s.life.stands k ≡ held.Frame f → Made (move.Bad f) s z → z ≡ moved_with_call s z → FailsToBring k fault.Read s z
 settling_fails k f s z h e m same = record {
-  stuck = λ a b. piece_of a (HasTried a fault.Read z) 1 0 0 [] (move.Bad f ∷ []) s z (does_one (move.Bad f) s z m) (h.owner k f e ∙ ap (λ (x : Key). Some x) (sym b.needs), tt) (λ q. cc) (omega arith) (omega arith);
+  stuck = λ a b. piece_of a (HasTried a fault.Read z) true 1 0 0 [] (move.Bad f ∷ []) s z (does_one (move.Bad f) s z m) (h.owner k f e ∙ ap (λ (x : Key). Some x) (sym b.needs), tt) (λ q. cc) (refl, refl) (omega arith) (omega arith);
   fails = read_fails k s z (bad_read f k s z h m e) (bad_fault f s z h m) same;
 }
 

@@ -353,7 +353,7 @@ pub record Rests (s z : StateOf) : Type 0 where
   pub paging : z.paging ≡ s.paging
   pub files : z.files ≡ s.files
 
-pub rests_through : (a : Aim) (E : Walk → Type 0) (n p o : ℕ) (s z : StateOf) → Piece a E n p o [] s z → is_thread s.life.kind ≡ true → s.told.search_writes ≡ no_calls → Rests s z
+pub rests_through : {b : Bool} (a : Aim) (E : Walk → Type 0) (n p o : ℕ) (s z : StateOf) → Piece a E b n p o [] s z → is_thread s.life.kind ≡ true → s.told.search_writes ≡ no_calls → Rests s z
 rests_through a E n p o s z x t e =
     let d = x.does in
     let q = quiet_all a x.moves (walk_of s) z.life t x.each d.replays in
@@ -366,7 +366,7 @@ rests_through a E n p o s z x t e =
     }
 
 -- no device write was tried, still
-pub calm_through : (a : Aim) (E : Walk → Type 0) (n p o : ℕ) (s z : StateOf) → Piece a E n p o [] s z → (is_thread s.life.kind ≡ true → s.told.search_writes ≡ no_calls) → is_thread z.life.kind ≡ true → z.told.search_writes ≡ no_calls
+pub calm_through : {b : Bool} (a : Aim) (E : Walk → Type 0) (n p o : ℕ) (s z : StateOf) → Piece a E b n p o [] s z → (is_thread s.life.kind ≡ true → s.told.search_writes ≡ no_calls) → is_thread z.life.kind ≡ true → z.told.search_writes ≡ no_calls
 calm_through a E n p o s z x e t =
     let was = sym (ap is_thread (kind_through a x.moves (walk_of s) z.life x.each x.does.replays)) ∙ t in
     ap (λ (y : Told). y.search_writes) (rests_through a E n p o s z x was (e was)).told ∙ e was

@@ -310,6 +310,7 @@ started_passes writes n k place r tid s y z o u h q =
     let p : Went (aim_for writes n k place s) 1 s y = h.came.went (aim_for writes n k place s) (record { at = refl; needs = need_key n k place; from = refl }) in
     passes_beside (Starts (aim_for writes n k place s) tid r) p.moves s y z o u y.bound y.names y.contents y.ages (changed ◌==◌ y.waits tid (wait_begun r (y.life.stands k))) p.does q (record {
       made = made_by (aim_for writes n k place s) IsFresh 1 s y p (omega arith);
+      read = p.fails;
       waits = λ i. changed ◌==◌ (p.does.waits i) tid (wait_begun r (y.life.stands (sym (need_key n k place) i)));
       ages = p.does.ages;
       slots = h.came.slots;

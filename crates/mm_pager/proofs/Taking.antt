@@ -98,27 +98,27 @@ none_zeroed s y (Stolen z f m e) none = ap (λ (l : FrameLife). is_empty l.frame
 stolen_alone : (s y : StateOf) (f : Frame) → is_empty s.life.frames.free ≡ true → Made (move.Steal f) s y → y.life.frames.free ≡ f.0 ∷ []
 stolen_alone s y f none m = ap (λ (l : FrameLife). l.frames.free) m.life ∙ ap (λ (xs : List ℕ). xs ++ f.0 ∷ []) (nothing_in s.life.frames.free none)
 
-pub took_freed : (a : Aim) (E : Walk → Type 0) (n : ℕ) (s y z : StateOf) → Frees s y → (q : TakesFrame a E n y z) → ((f : Frame) → y.life.frames.free ≡ f.0 ∷ [] → (t : List ℕ) → IsUsedNext f (q t).moves) → TakesFrame a E n s z
+pub took_freed : {b : Bool} (a : Aim) (E : Walk → Type 0) (n : ℕ) (s y z : StateOf) → Frees s y → (q : TakesFrame a E b n y z) → ((f : Frame) → y.life.frames.free ≡ f.0 ∷ [] → (t : List ℕ) → IsUsedNext f (q t).moves) → TakesFrame a E b n s z
 unfolding move_front
-took_freed a E n s y z (Free e) q h = subst (λ (x : StateOf). TakesFrame a E n x z) e q
+took_freed {b = b} a E n s y z (Free e) q h = subst (λ (x : StateOf). TakesFrame a E b n x z) e q
 took_freed a E n s y z (Stolen no_zeroed none m e) q h =
     let f = front s.life.frames.standby in
-    move_front a E (move.Steal f) n s y z m (λ t. refl) refl refl q (h f (stolen_alone s y f none m))
+    move_front a E (move.Steal f) n s y z m (λ t. refl) refl refl refl q (h f (stolen_alone s y f none m))
 
-pub took_ready : (a : Aim) (E : Walk → Type 0) (n : ℕ) (s y z : StateOf) → Readies s y → (q : TakesFrame a E n y z) → ((t : List ℕ) → IsGivenNext (front y.life.frames.zeroed) (q t).moves) → TakesFrame a E n s z
+pub took_ready : {b : Bool} (a : Aim) (E : Walk → Type 0) (n : ℕ) (s y z : StateOf) → Readies s y → (q : TakesFrame a E b n y z) → ((t : List ℕ) → IsGivenNext (front y.life.frames.zeroed) (q t).moves) → TakesFrame a E b n s z
 unfolding move_front
-took_ready a E n s y z (Zeroed e) q h = subst (λ (x : StateOf). TakesFrame a E n x z) e q
+took_ready {b = b} a E n s y z (Zeroed e) q h = subst (λ (x : StateOf). TakesFrame a E b n x z) e q
 took_ready a E n s y z (Cleared x none f m e) q h =
     let g = front x.life.frames.free in
     let empty : x.life.frames.zeroed ≡ [] = nothing_in x.life.frames.zeroed (none_zeroed s x f none) in
     let last : front y.life.frames.zeroed ≡ g = ap (λ (l : FrameLife). front l.frames.zeroed) m.life ∙ ap (λ (xs : List ℕ). front (xs ++ g.0 ∷ [])) empty in
     let given = λ (t : List ℕ). subst (λ (w : Frame). IsGivenNext w (q t).moves) last (h t) in
-    took_freed a E n s x z f (move_front a E (move.Clear g) n x y z m (λ t. refl) refl refl q given) (λ w only t. ap front only)
+    took_freed a E n s x z f (move_front a E (move.Clear g) n x y z m (λ t. refl) refl refl refl q given) (λ w only t. ap front only)
 
 -- ---- a page is given a frame
 
 pub went_give : (a : Aim) (f : Frame) (k : Key) (s y z : StateOf) → Readies s y → f ≡ front y.life.frames.zeroed → Made (move.Give f k) y z → IsFor a k → TookFrame a 0 s z
-went_give a f k s y z r e m h = took_ready a IsFresh 0 s y z r (λ t. piece_of a IsFresh 0 1 0 t (move.Give f k ∷ []) y z (does_one (move.Give f k) y z m) (h, tt) refl (omega arith) (omega arith)) (λ t. e)
+went_give a f k s y z r e m h = took_ready a IsFresh 0 s y z r (λ t. piece_of a IsFresh false 0 1 0 t (move.Give f k ∷ []) y z (does_one (move.Give f k) y z m) (h, tt) refl refl (omega arith) (omega arith)) (λ t. e)
 
 pub first_there : (xs : List ℕ) → is_empty xs ≡ false → is_first (front xs).0 xs ≡ true
 first_there [] e = cc
@@ -174,18 +174,18 @@ only_read l f e = ap (λ (xs : List ℕ). front_for_read (record l { frames = re
 module _ (a : Aim) (f : Frame) (k : Key) (s y m z : StateOf) (frees : Frees s y) (first : f ≡ front_for_read y.life) (holds : StateHolds m) (begins : Made (move.Read f k) y m) (h : ReadsFor a k) where
   pub went_read : Made (move.Got f) m z → TookFrame a 1 s z
   went_read ends = took_freed a IsFresh 1 s y z frees
-      (λ t. piece_of a IsFresh 1 1 0 t (move.Read f k ∷ move.Got f ∷ []) y z (does_two (move.Read f k) (move.Got f) y m z begins ends)
-      ((sym h.needs, h.absent, λ e. inl refl), (got_there f k a.need.key y m holds begins h.needs, tt)) refl (omega arith) (omega arith)) (λ g only t. first ∙ only_read y.life g only)
+      (λ t. piece_of a IsFresh false 1 1 0 t (move.Read f k ∷ move.Got f ∷ []) y z (does_two (move.Read f k) (move.Got f) y m z begins ends)
+      ((sym h.needs, h.absent, λ e. inl refl), (got_there f k a.need.key y m holds begins h.needs, tt)) refl refl (omega arith) (omega arith)) (λ g only t. first ∙ only_read y.life g only)
 
-  pub stuck_read : Made (move.Bad f) m z → TakesFrame a (HasTried a fault.Read z) 1 s z
+  pub stuck_read : Made (move.Bad f) m z → TakesFrame a (HasTried a fault.Read z) true 1 s z
   stuck_read ends = took_freed a (HasTried a fault.Read z) 1 s y z frees
-      (λ t. piece_of a (HasTried a fault.Read z) 1 1 0 t (move.Read f k ∷ move.Bad f ∷ []) y z (does_two (move.Read f k) (move.Bad f) y m z begins ends)
-      ((sym h.needs, h.absent, λ e. inr refl), (got_there f k a.need.key y m holds begins h.needs, tt)) (λ e. cc) (omega arith) (omega arith)) (λ g only t. first ∙ only_read y.life g only)
+      (λ t. piece_of a (HasTried a fault.Read z) true 1 1 0 t (move.Read f k ∷ move.Bad f ∷ []) y z (does_two (move.Read f k) (move.Bad f) y m z begins ends)
+      ((sym h.needs, h.absent, λ e. inr refl), (got_there f k a.need.key y m holds begins h.needs, tt)) (λ e. cc) (refl, refl) (omega arith) (omega arith)) (λ g only t. first ∙ only_read y.life g only)
 
   -- it stays in flight where its line is no access
   pub took_read : (is_access y.life.kind ≡ true → ⊥) → TookFrame a 1 s m
   took_read never = took_freed a IsFresh 1 s y m frees
-      (λ t. piece_of a IsFresh 1 1 0 t (move.Read f k ∷ []) y m (does_one (move.Read f k) y m begins) ((sym h.needs, h.absent, λ e. absurd (never e)), tt) refl (omega arith) (omega arith))
+      (λ t. piece_of a IsFresh false 1 1 0 t (move.Read f k ∷ []) y m (does_one (move.Read f k) y m begins) ((sym h.needs, h.absent, λ e. absurd (never e)), tt) refl refl (omega arith) (omega arith))
       (λ g only t. first ∙ only_read y.life g only)
 
 -- ---- the line's own request has ended
@@ -349,11 +349,11 @@ placed_after k f place s y z kind e q = record {
 -- ---- the piece
 
 pub went_map : (a : Aim) (f : Frame) (place : Place) (s z : StateOf) → a.place ≡ place → Made (move.Map f place) s z → Went a 0 s z
-went_map a f place s z e m = went_one a (move.Map f place) s z m (sym e) refl (omega arith) (omega arith)
+went_map a f place s z e m = went_one a (move.Map f place) s z m (sym e) refl refl (omega arith) (omega arith)
 
 pub went_unmap_map : (a : Aim) (f : Frame) (place p : Place) (s y z : StateOf) → a.place ≡ place → p.pid ≡ place.pid → s.life.valid place ≡ None → is_at_max (set_of s.life place.pid.0) ≡ true → IsOldest s.life s.ages None p → Made (move.Unmap p) s y → Made (move.Map f place) y z → Went a 0 s z
-went_unmap_map a f place p s y z e q free full old u m = piece_of a IsFresh 0 0 0 [] (move.Unmap p ∷ move.Map f place ∷ []) s z (does_two (move.Unmap p) (move.Map f place) s y z u m)
-    (FromFull (q ∙ ap (λ (x : Place). x.pid) (sym e)) (ap s.life.valid e ∙ free) (ap (λ (x : Pid). is_at_max (set_of s.life x.0)) q ∙ full) old (f, ap (λ (x : Place). move.Map f x) (sym e)), (sym e, tt)) refl (omega arith) (omega arith)
+went_unmap_map a f place p s y z e q free full old u m = piece_of a IsFresh false 0 0 0 [] (move.Unmap p ∷ move.Map f place ∷ []) s z (does_two (move.Unmap p) (move.Map f place) s y z u m)
+    (FromFull (q ∙ ap (λ (x : Place). x.pid) (sym e)) (ap s.life.valid e ∙ free) (ap (λ (x : Pid). is_at_max (set_of s.life x.0)) q ∙ full) old (f, ap (λ (x : Place). move.Map f x) (sym e)), (sym e, tt)) refl refl (omega arith) (omega arith)
 
 -- ---- the oldest page of a full set
 

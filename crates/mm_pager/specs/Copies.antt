@@ -96,7 +96,8 @@ pub record MayCopy (place : Place) (s : StateOf) : Type 0 where
 
 -- the place's own page came to be beside the tables, and has this frame
 pub record CopyGiven (place : Place) (f : Frame) (s z : StateOf) : Type 0 where
-  pub took : (a : Aim) → a.need.copy ≡ Some (key_of_place place) → TookFrame a 0 s z
+  pub took : (a : Aim) → a.place ≡ place → a.need.copy ≡ Some (key_of_place place) →
+      is_some (s.life.valid place) ≡ true → TookFrame a 0 s z
   pub life : KeyAdded (key_of_place place) s.life z.life
   pub valid : z.life.valid ≡ s.life.valid
   pub names : z.names ≡ s.names

@@ -9,7 +9,7 @@ use Rattle.mm_types.specs.declared.moves.Move.TheVariants as move
 use Rattle.mm_types.specs.declared.numbers.Key.TheVariants.{Private, Shared}
 use Rattle.mm_move_rules.specs.{record_at, is_read, is_short, Walk, Through, walked_all, is_read_move, takes_frame, is_wrote_move, Starved, ending}
 use Rattle.mm_move_rules.specs.{FrameLife, changed, same_place, fits_place}
-use Rattle.mm_store.specs.{Done, Aim, AccessMove, is_had, place_at, Turns, page_rank, PassesIn, no_calls, is_framed}
+use Rattle.mm_store.specs.{Done, Aim, AccessMove, ReadFails, is_read_fault, is_had, place_at, Turns, page_rank, PassesIn, no_calls, is_framed}
 use Rattle.mm_store.specs.declared.outcomes.Done.TheVariants as done
 use Rattle.mm_store.specs.Housekeeping.{Ends}
 use Rattle.mm_store.specs.Leaving.{Leaving}
@@ -20,14 +20,16 @@ use Rattle.mm_state_calls.specs.{StateOf, Made, moved, moved_with_call, SomeFaul
 abbrev pub walk_at : List ℕ → StateOf → Walk
 walk_at tried s = record { life = s.life; ages = s.ages; tried = tried }
 
--- Moves of an access, from where these frames were tried: at most so many reads, and of its writes
--- `paid` fewer than frames that are taken, or `owed` more. They end where this holds of the walk.
-pub record Piece (a : Aim) (End : Walk → Type 0) (reads paid owed : ℕ) (tried : List ℕ)
-    (s z : StateOf) : Type 0 where
+-- Moves of an access, from where these frames were tried: at most so many reads, of which the last
+-- fails or none does, and of its writes `paid` fewer than frames that are taken, or `owed` more.
+-- They end where this holds of the walk.
+pub record Piece (a : Aim) (End : Walk → Type 0) (failed : Bool) (reads paid owed : ℕ)
+    (tried : List ℕ) (s z : StateOf) : Type 0 where
   pub moves : List Move
   pub does : DoesMoves moves s z
   pub each : Through (AccessMove a) (walk_at tried s) moves
   pub ends : End (walked_all (walk_at tried s) moves)
+  pub fails : ReadFails failed moves
   pub few_reads : count_by is_read_move moves ≤ reads
   pub few_writes : count_by is_wrote_move moves + paid ≤ count_by takes_frame moves + owed
 
@@ -44,22 +46,22 @@ HasTried a why z w = why ≡ fault.NoFrame → Starved (z.life.valid a.place) w
 
 -- moves of an access, with at most so many reads, after which a new search would begin
 abbrev pub Went : Aim → ℕ → StateOf → StateOf → Type 0
-Went a reads s z = Piece a IsFresh reads 0 0 [] s z
+Went a reads s z = Piece a IsFresh false reads 0 0 [] s z
 
 -- the moves of an access that failed
 abbrev pub Stuck : Aim → PageFault → ℕ → StateOf → StateOf → Type 0
-Stuck a why reads s z = Piece a (HasTried a why z) reads 0 0 [] s z
+Stuck a why reads s z = Piece a (HasTried a why z) (is_read_fault why) reads 0 0 [] s z
 
 -- the search of an access
 abbrev pub Sought : Aim → StateOf → StateOf → Type 0
-Sought a s z = Piece a Anywhere 0 0 1 [] s z
+Sought a s z = Piece a Anywhere false 0 0 1 [] s z
 
 -- a frame is taken, whatever was tried in the search before, and so this holds where it ends
-abbrev pub TakesFrame : Aim → (Walk → Type 0) → ℕ → StateOf → StateOf → Type 0
-TakesFrame a End reads s z = (t : List ℕ) → Piece a End reads 1 0 t s z
+abbrev pub TakesFrame : Aim → (Walk → Type 0) → Bool → ℕ → StateOf → StateOf → Type 0
+TakesFrame a End failed reads s z = (t : List ℕ) → Piece a End failed reads 1 0 t s z
 
 abbrev pub TookFrame : Aim → ℕ → StateOf → StateOf → Type 0
-TookFrame a reads s z = TakesFrame a IsFresh reads s z
+TookFrame a reads s z = TakesFrame a IsFresh false reads s z
 
 -- a frame is for this page
 abbrev pub IsFor : Aim → Key → Type 0

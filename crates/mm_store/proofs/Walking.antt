@@ -1,9 +1,9 @@
 -- The moves of an access in two pieces.
-use Rattle.std.proofs.Common.{◌≡◌, List, [], ◌∷◌, ◌++◌, Some, None, refl, inl, inr}
+use Rattle.std.proofs.Common.{◌≡◌, Bool, true, false, List, [], ◌∷◌, ◌++◌, Some, None, refl, inl, inr}
 use Rattle.mm_types.specs.{Move, Frame, Place}
 use Rattle.mm_types.specs.declared.moves.Move.TheVariants as move
 use Rattle.mm_move_rules.specs.{Walk, walked, walked_all, Through, IsWriteEnded}
-use Rattle.mm_store.specs.{Aim, AccessMove, ByCopy, FromFull, InShortage, IsGivenAtOnce, IsGivenNext, IsUsedNext, IsGiven, IsReadEnded, IsMapped, PageGoes}
+use Rattle.mm_store.specs.{Aim, AccessMove, ByCopy, FromFull, InShortage, IsGivenAtOnce, IsGivenNext, IsUsedNext, IsGiven, IsReadEnded, IsMapped, PageGoes, ReadFails}
 
 pub through_then : (P : Walk → Move → List Move → Type 0) → ((w : Walk) (m : Move) (ms ys : List Move) → P w m ms → P w m (ms ++ ys)) → (xs ys : List Move) (w : Walk) → Through P w xs → Through P (walked_all w xs) ys → Through P w (xs ++ ys)
 through_then P more [] ys w p q = q
@@ -42,7 +42,7 @@ goes_more a w p ms ys (InShortage s n v) = InShortage s n v
 
 pub access_more : (a : Aim) (w : Walk) (m : Move) (ms ys : List Move) → AccessMove a w m ms → AccessMove a w m (ms ++ ys)
 access_more a w (move.At n k) ms ys h = absurd h
-access_more a w (move.Add k None) ms ys h = (h.0, first_more (IsGiven k) (λ g. g) (λ m ms ys g. g) ms ys h.1)
+access_more a w (move.Add k None) ms ys h = (h.0, h.1, first_more (IsGiven k) (λ g. g) (λ m ms ys g. g) ms ys h.2)
 access_more a w (move.Add k (Some b)) ms ys h = absurd h
 access_more a w (move.Drop k) ms ys h = absurd h
 access_more a w (move.Clear f) ms ys h = given_more f ms ys h
@@ -55,3 +55,9 @@ access_more a w _ ms ys h = h
 -- an access goes on
 pub accesses_then : (a : Aim) (xs ys : List Move) (w : Walk) → Through (AccessMove a) w xs → Through (AccessMove a) (walked_all w xs) ys → Through (AccessMove a) w (xs ++ ys)
 accesses_then a xs ys w p q = through_then (AccessMove a) (access_more a) xs ys w p q
+
+-- nothing stands behind a read that failed
+pub fails_then : (failed : Bool) (xs ys : List Move) → ReadFails false xs → ReadFails failed ys → ReadFails failed (xs ++ ys)
+fails_then failed [] ys p q = q
+fails_then failed (move.Bad f ∷ xs) ys p q = let bad : false ≡ true = p.0 in cc
+fails_then failed (_ ∷ xs) ys p q = fails_then failed xs ys p q

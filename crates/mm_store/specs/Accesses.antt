@@ -83,13 +83,14 @@ pub data PageGoes (a : Aim) (w : Walk) (p : Place) (rest : List Move) : Type 0 w
   FromFull : p.pid ≡ a.place.pid → w.life.valid a.place ≡ None →
       is_at_max (set_of w.life p.pid.0) ≡ true → IsOldest w.life w.ages None p →
       IsMapped a.place rest → PageGoes a w p rest
-  InShortage : is_shortage a.need w.life ≡ true → next_writable w ≡ None →
+  InShortage : is_shortage a.need a.place w.life ≡ true → next_writable w ≡ None →
       IsVictim w.life w.ages (w.life.valid a.place) p → PageGoes a w p rest
 
 -- what each move of an access is
 abbrev pub AccessMove : Aim → Walk → Move → List Move → Type 0
 AccessMove a w (move.At n k) rest = ⊥
-AccessMove a w (move.Add k None) rest = (a.need.copy ≡ Some k) × IsGiven k rest
+AccessMove a w (move.Add k None) rest = (a.need.copy ≡ Some k) ×
+    (is_some (w.life.valid a.place) ≡ true) × IsGiven k rest
 AccessMove a w (move.Add k (Some b)) rest = ⊥
 AccessMove a w (move.Drop k) rest = ⊥
 AccessMove a w (move.Clear f) rest = IsGivenNext f rest
@@ -104,7 +105,7 @@ AccessMove a w (move.Map f p) rest = p ≡ a.place
 AccessMove a w (move.Unmap p) rest = PageGoes a w p rest
 AccessMove a w (move.Soil f) rest = (a.writes ≡ true) × (w.life.valid a.place ≡ Some f) ×
     ((record_at w.life.frames f.0).owner ≡ Some (key_written a.need))
-AccessMove a w (move.Write f s) rest = (is_shortage a.need w.life ≡ true) ×
+AccessMove a w (move.Write f s) rest = (is_shortage a.need a.place w.life ≡ true) ×
     (next_writable w ≡ Some f.0) × IsWriteEnded f rest
 AccessMove a w (move.Wrote f) rest = is_on f.0 a.start.flight ≡ false
 AccessMove a w (move.Lost f) rest = is_on f.0 a.start.flight ≡ false
@@ -118,10 +119,21 @@ pub record AccessMoves (a : Aim) (b : Behind) (moves : List Move) : Type 0 where
   pub one_read : count_by is_read_move moves ≤ 1
   pub few_writes : count_by is_wrote_move moves ≤ count_by takes_frame moves
 
+-- whether a read fails among these moves: if so, it is the last of them and the only one
+abbrev pub ReadFails : Bool → List Move → Type 0
+ReadFails failed [] = failed ≡ false
+ReadFails failed (move.Bad f ∷ ms) = (failed ≡ true) × (ms ≡ [])
+ReadFails failed (m ∷ ms) = ReadFails failed ms
+
+abbrev pub is_read_fault : PageFault → Bool
+is_read_fault fault.Read = true
+is_read_fault fault.NoFrame = false
+
 -- of an access answered with its bytes: its place is valid and as young as can be, and no thread
 -- waits but by its moves
 pub record Had (a : Aim) (b : Behind) (moves : List Move) (c : Behind) : Type 0 where
   pub made : AccessMoves a b moves
+  pub read : ReadFails false moves
   pub waits : c.waits ≡ waits_through moves b.waits
   pub valid : is_some (c.life.valid a.place) ≡ true
   pub ages : c.ages ≡ changed same_place (ages_through moves b.ages) a.place 0
@@ -130,6 +142,7 @@ pub record Had (a : Aim) (b : Behind) (moves : List Move) (c : Behind) : Type 0 
 pub record Failed (a : Aim) (why : PageFault) (b : Behind) (moves : List Move) (c : Behind) :
     Type 0 where
   pub made : AccessMoves a b moves
+  pub read : ReadFails (is_read_fault why) moves
   pub waits : c.waits ≡ waits_through moves b.waits
   pub ages : c.ages ≡ ages_through moves b.ages
   pub starved : why ≡ fault.NoFrame →
@@ -170,6 +183,7 @@ wait_begun _ _ = Idle
 pub record Starts (a : Aim) (tid : ℕ) (result : Start) (b : Behind) (moves : List Move)
     (c : Behind) : Type 0 where
   pub made : AccessMoves a b moves
+  pub read : ReadFails false moves
   pub waits : c.waits ≡
       changed ◌==◌ (waits_through moves b.waits) tid (wait_begun result (c.life.stands a.need.key))
   pub ages : c.ages ≡ ages_through moves b.ages

@@ -27,8 +27,8 @@ pub use Told.{told_after, told_of, told_through, with_read, with_write}
 pub use Shortage.{is_framed, is_shortage}
 pub use Accesses.{AccessEnds, AccessMove, AccessMoves, Aim, ByCopy, Copies, Failed, Forgets}
 pub use Accesses.{FromFull, Had, InShortage, IsGiven, IsGivenAtOnce, IsGivenNext, IsMapped}
-pub use Accesses.{IsReadEnded, IsUsedNext, PageGoes, ReadyMoves, Starts, Touches, is_had}
-pub use Accesses.{key_written, wait_begun, walk_from}
+pub use Accesses.{IsReadEnded, IsUsedNext, PageGoes, ReadFails, ReadyMoves, Starts, Touches, is_had}
+pub use Accesses.{is_read_fault, key_written, wait_begun, walk_from}
 pub use Flushing.{FlushMoves, FlushedAt, FlushesBy, IsEndOf, IsEndedFirst, IsWriteOf, IsWrittenIf}
 pub use Flushing.{IsWrittenNow, ends_lost, life_through}
 pub use Housekeeping.{AgesAll, AllTurn, ByMoves, Clears, Climbs, Completes, CompletesAs, Exactly}

@@ -38,7 +38,7 @@ returns-in-Grow g c =
     }) (λ a. tt) (λ paged.
     beside-grow (world_with c.args.t.now (key_bytes (g.G.PageStore.contents c.args.g.now))) c.args.t.now.blocks_used c.in-Grow.slots c.args.line g.G.PageStore.unpaged
     (g.G.PageStore.store c.args.g.now) (g.G.PageStore.store call.new.g) (g.G.PageStore.behind c.args.g.now) (g.G.PageStore.behind call.new.g) paged call.result
-    (if-ok call.result call.ensures.done (λ a h. h.rest)) (if-ok call.result call.ensures.done (λ a h. h.grew)) call.ensures.notes)
+    (if-ok call.result call.ensures.done (λ a h. h.rest)) (if-ok call.result call.ensures.done (λ a h. h.grew)) (if-ok call.result call.ensures.done (λ a h. h.unasked)) call.ensures.notes)
 
 pub returns-in-File : goal.returns-in-File
 returns-in-File g c =
