@@ -21,13 +21,15 @@ import argparse
 import json
 import os
 import re
-import shutil
 import subprocess
 import sys
 import tempfile
 from collections.abc import Sequence
 from pathlib import Path
 from typing import Any, Optional
+
+sys.path.insert(0, os.path.dirname(os.path.abspath(__file__)))
+from common import apt  # noqa: E402
 
 TOP = Path(__file__).resolve().parent.parent
 PYTHON = TOP / "python"
@@ -100,25 +102,11 @@ def has(name: str) -> bool:
     return subprocess.run(words).returncode == 0
 
 
-def install(packages: Sequence[str]) -> None:
-    """Installs Debian's packages, where that may be; whether it did is seen afterwards."""
-    if os.geteuid() != 0 or not shutil.which("apt-get"):
-        return
-    for words in (["update"], ["install", "-y", "--no-install-recommends", *packages]):
-        subprocess.run(
-            ["apt-get", "-o", "DPkg::Lock::Timeout=300", *words],
-            stdin=subprocess.DEVNULL,
-            stdout=subprocess.DEVNULL,
-            stderr=subprocess.DEVNULL,
-            env={**os.environ, "DEBIAN_FRONTEND": "noninteractive"},
-        )
-
-
 def missing(packages: dict[str, str]) -> list[str]:
     """The libraries that are not there and cannot be installed."""
     lacking = [name for name in packages if not has(name)]
     if lacking:
-        install([packages[name] for name in lacking])
+        apt([packages[name] for name in lacking])
         lacking = [name for name in lacking if not has(name)]
     return lacking
 
