@@ -246,7 +246,7 @@ def compare_answers(check: Check, room: str) -> None:
     ended = check.run("mmsim", ["run"], script)
     said = ended.out.splitlines(True)
     other = check.run("mmsim", ["run"], read("examples/first.mm")).out
-    cases = [
+    cases: list[tuple[str, list[bytes], Optional[int]]] = [
         ("one too few", said[:-1], len(said)),
         ("none", [], 1),
         ("one too many", said + [b"ok\n"], len(said) + 1),
