@@ -314,7 +314,7 @@ SPOILS = [
     Spoil("page", "an mmshow that writes one more byte",
           piped("mmshow", "html*", "s/^<title>/<title> /"), "the page's bytes"),
     Spoil("traces", "a number of a stored table",
-          edited("examples/sort.table", "10000", "10001"), "examples/sort.table"),
+          edited("examples/sort.table", "49,274", "49,275"), "examples/sort.table"),
     Spoil("traces", "a stored script",
           edited("examples/two-processes.mm", "age ", "age  "), "examples/two-processes.mm"),
     Spoil("traces", "an mmlog that counts otherwise",
