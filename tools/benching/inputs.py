@@ -5,7 +5,7 @@ from __future__ import annotations
 import heapq
 from functools import partial
 from pathlib import Path
-from typing import Callable, Iterable, Iterator, NamedTuple
+from typing import Callable, Iterator, NamedTuple
 
 ROOT = Path(__file__).resolve().parent.parent.parent
 USER_PAGES = 524_256
@@ -248,53 +248,49 @@ def drawn_trace(seed: int, references: int) -> Iterator[str]:
 # Smaller and larger machines
 
 
-class Sized(NamedTuple):
-    """A case on a machine of some size: a script of so many lines, and how many are counted."""
+class Growing(NamedTuple):
+    """A case on machines of several sizes: the unit of size, a script of a size and of so many
+    lines, and for each size how many lines are counted."""
 
     case: str
-    size: str
-    script: Callable[[int], Iterable[str]]
-    lines: int
+    unit: str
+    script: Callable[[int, int], Iterator[str]]
+    sizes: dict[int, int]
 
 
-def sized_scripts(seed: int, lines: int) -> Iterator[Sized]:
-    """Scripts that read and write, and calls, on smaller and larger machines."""
-    for frames in (16, 4096, 262_144):
-        script = partial(valid_of_size, seed, frames, min(1024, frames // 2))
-        yield Sized("a", f"{frames:,} frames", script, lines)
-    for pages in (100, 65_000):
-        script = partial(valid_of_size, seed, 131_072, pages)
-        yield Sized("a", f"{pages:,} pages in a working set", script, lines)
-    for count in (10, 2000, 60_000):
-        script = partial(regions_of_size, seed, count, 1024)
-        yield Sized("b", f"{count:,} regions", script, lines)
-    for frames in (16, 4096, 262_144):
-        script = partial(regions_of_size, seed, 2000, frames)
-        yield Sized("b", f"{frames:,} frames", script, lines)
+# Lines to be counted on machines that page: by then most pages were touched.
+PAGED = {16: 20_000, 64: 20_000, 512: 50_000, 4096: 100_000, 262_144: 5_000}
+IN_A_SET = "pages in a working set"
 
 
-def valid_of_size(seed: int, frames: int, pages: int, lines: int) -> Iterator[str]:
-    return valid_pages(seed, lines, frames, pages)
+def growing(seed: int, lines: int) -> Iterator[Growing]:
+    """What is counted on smaller and larger machines, and on smaller and larger working sets."""
+
+    def valid(frames: int, count: int) -> Iterator[str]:
+        return valid_pages(seed, count, frames, min(1024, frames // 2))
+
+    def in_a_set(pages: int, count: int) -> Iterator[str]:
+        return valid_pages(seed, count, 131_072, pages)
+
+    def regions(many: int, count: int) -> Iterator[str]:
+        return many_regions(seed, count, many)
+
+    def regions_on(frames: int, count: int) -> Iterator[str]:
+        return many_regions(seed, count, 2000, frames)
+
+    def paging(frames: int, count: int) -> Iterator[str]:
+        return heavy_paging(seed, count, frames, 8 if frames == 262_144 else 2)
+
+    yield Growing("a", "page frames", valid, dict.fromkeys((16, 4096, 262_144), lines))
+    yield Growing("a", IN_A_SET, in_a_set, dict.fromkeys((100, 65_000), lines))
+    yield Growing("b", "regions", regions, dict.fromkeys((10, 2000, 60_000), lines))
+    yield Growing("b", "page frames", regions_on, dict.fromkeys((16, 4096, 262_144), lines))
+    yield Growing("e", "page frames", paging, PAGED)
+    for used in (0, 8):
+        unit = f"{IN_A_SET}, {used} read before each"
+        sizes = dict.fromkeys((100, 1000, 10_000, 65_000), 100)
+        yield Growing("`age`", unit, partial(aged, used), sizes)
 
 
-def regions_of_size(seed: int, count: int, frames: int, lines: int) -> Iterator[str]:
-    return many_regions(seed, lines, count, frames)
-
-
-def paging_of_size(seed: int, frames: int, lines: int) -> Iterator[str]:
-    return heavy_paging(seed, lines, frames, 8 if frames == 262_144 else 2)
-
-
-def ages_of_size(pages: int, used: int, lines: int) -> Iterator[str]:
+def aged(used: int, pages: int, lines: int) -> Iterator[str]:
     return ages(lines, pages, used)
-
-
-def paged_scripts(seed: int) -> Iterator[Sized]:
-    """Scripts that page and age; most pages were touched before they are counted."""
-    warm = {16: 20_000, 64: 20_000, 512: 50_000, 4096: 100_000, 262_144: 5_000}
-    for frames, count in warm.items():
-        yield Sized("e", f"{frames:,} frames", partial(paging_of_size, seed, frames), count)
-    for pages in (100, 1000, 10_000, 65_000):
-        for used in (0, 8):
-            size = f"{pages:,} pages in a working set, {used} read before each"
-            yield Sized("age", size, partial(ages_of_size, pages, used), 100)

@@ -40,8 +40,7 @@ class Clocked(NamedTuple):
 
     def told(self, count: int, unit: str) -> str:
         """The cells of a row about so many lines, pages, moves or references."""
-        each = self.seconds * 1e9 / count
-        times = f"{count / self.seconds:,.0f} {unit}s a second, {each:,.1f} ns each"
+        times = f"{count / self.seconds:,.0f} {unit}s a second"
         return f"{self.seconds:.3f} s | {times} | {self.memory:,}"
 
 

@@ -7,6 +7,7 @@ import re
 import shutil
 import subprocess
 import sys
+from functools import partial
 from pathlib import Path
 from typing import Callable, Iterable, Iterator, NamedTuple, Sequence
 
@@ -35,16 +36,14 @@ CASES = {
     "g": Case("the stored trace of `sort`", "line", 1200),
 }
 # The forms of `mmshow` that are counted on the log of e, and how many times f the goal is.
-FORMS = {"sums": 0, "faults": 0, "counts": 0, "tell": 3, "html": 2, "events": 0}
-WITH_FILES = ("tell", "html", "events")
+FORMS = {"tell": 3, "html": 2, "events": 0}
 TRACE_FRAMES = 128
 REFERENCES = 1_000_000  # of a drawn trace
 EIGHT = "64,96,128,192,256,384,512,1024"
 MANY, MANY_FRAMES = 64, "64..1072..16"  # machines of a sweep
 CONVERTED: tuple[tuple[str, list[str]], ...] = (
     (f"`melzudek trace`, {TRACE_FRAMES} page frames", []),
-    ("the same, its script written", ["--to", os.devnull]),
-    ("the exact filter alone (no policies)", ["--no-policies"]),
+    ("the exact filter alone", ["--no-policies"]),
 )
 
 
@@ -98,19 +97,14 @@ def built(bench: Bench) -> str:
     return f"{build} of {said.split()[0] if said else 'an unknown kit'}, seed {bench.seed}"
 
 
-def row_of(bench: Bench, case: str) -> str:
-    """The row of a case."""
+def row_of(bench: Bench, case: str, name: str = "") -> str:
+    """The row of a case; of its name only the letter is needed where a table of them stands."""
     now, count = figure(bench, case)
-    name, unit, goal = CASES[case]
-    return f"| {case} | {name} | {goal:,} | {spelled(now)} a {unit} | {count:,} |"
+    _, unit, goal = CASES[case]
+    return f"| {case}{name} | {goal:,} | {spelled(now)} a {unit} | {count:,} |"
 
 
-def counted(bench: Bench, cases: Sequence[str]) -> Rows:
-    """The rows of cases."""
-    yield "| | Input | Goal | Now | of |"
-    yield "|---|---|---|---|---|"
-    for case in cases:
-        yield row_of(bench, case)
+HEAD = ("| | Goal | Now | of |", "|---|---|---|---|")
 
 
 def moves_a_line(bench: Bench) -> Rows:
@@ -122,31 +116,34 @@ def moves_a_line(bench: Bench) -> Rows:
 
 def few(bench: Bench, cases: Sequence[str]) -> Rows:
     """Some cases alone."""
-    yield from counted(bench, cases)
+    yield from HEAD
+    for case in cases:
+        yield row_of(bench, case, f", {CASES[case].name}")
     if "e" in cases:
         yield from moves_a_line(bench)
 
 
 def table(bench: Bench) -> Rows:
     """Instructions: the cases, the forms of `mmshow`, a sweep, the exact filter on a trace."""
-    yield from counted(bench, sorted(CASES))
+    yield from HEAD
+    for case in sorted(CASES):
+        yield row_of(bench, case)
     yield from shown(bench)
     yield from tools(bench)
     yield from moves_a_line(bench)
 
 
 def shown(bench: Bench) -> Rows:
-    """Rows: what each form of `mmshow` takes for a line of the log of e, and how many times f."""
+    """Rows: what forms of `mmshow` take for a move of the log of e, and how many times f."""
     source, _ = bench.run("e-shown", script(bench, "e"))
     log = f"{source}.moves"
     count = bench.moves_of("e-shown")
     check = bench.instructions("mmlog", ["check"], log)
     for form, times in FORMS.items():
-        words = [form, source, f"{source}.out"] if form in WITH_FILES else [form]
-        total = bench.instructions("mmshow", words, log)
+        total = bench.instructions("mmshow", [form, source, f"{source}.out"], log)
         goal = f"{times} times f" if times else ""
         told = f"{total / count:,.0f} a move, {total / check:.1f} times f"
-        yield f"| | `mmshow {form}` of the log of e | {goal} | {told} | {count:,} |"
+        yield f"| `mmshow {form}` of e | {goal} | {told} | {count:,} |"
 
 
 # Time
@@ -178,13 +175,13 @@ def tools(bench: Bench) -> Rows:
     """Rows of the processor's time: a sweep of eight machines, a trace through the exact filter."""
     took = processor_seconds(sweep_words(bench, EIGHT, 1), os.devnull)
     lines = 8 * len(stored_trace())
-    told = f"{took:.1f} s of processor"
-    yield f"| | `melzudek sweep` of eight machines over `sort` | | {told} | {lines:,} |"
+    told = f"{took * 1e6 / lines:.0f} s of processor a million"
+    yield f"| `melzudek sweep`, eight machines | | {told} | {lines:,} |"
     trace, count = drawn_trace(bench)
     for name, more in CONVERTED:
         took = processor_seconds(trace_words(bench, more), trace)
-        told = f"{took * 1e6 / count:.2f} s of processor a million references"
-        yield f"| | {name} | | {told} | {count:,} |"
+        told = f"{took * 1e6 / count:.2f} s of processor a million"
+        yield f"| {name} | | {told} | {count:,} |"
 
 
 def timed(bench: Bench, case: str) -> tuple[Clocked, int]:
@@ -200,40 +197,49 @@ def timed(bench: Bench, case: str) -> tuple[Clocked, int]:
 
 def clock(bench: Bench, cases: Sequence[str] = ()) -> Rows:
     """Whole runs by the clock, the median of nine, and the memory of the largest process."""
-    yield "| | Input | Time | How many in it | Bytes of memory |"
-    yield "|---|---|---|---|---|"
+    yield "| | Time | How many | Bytes of memory |"
+    yield "|---|---|---|---|"
     for case in cases or sorted(CASES):
         run, count = timed(bench, case)
-        yield f"| {case} | {CASES[case].name} | {run.told(count, CASES[case].unit)} |"
+        yield f"| {case} | {run.told(count, CASES[case].unit)} |"
     if cases:
         return
     trace, count = drawn_trace(bench)
     for name, more in CONVERTED:
         run = bench.clocked(trace_words(bench, more), trace, 3)
-        yield f"| | {name} | {run.told(count, 'reference')} |"
+        yield f"| {name} | {run.told(count, 'reference')} |"
     processors = os.cpu_count() or 1
     run = bench.clocked(sweep_words(bench, MANY_FRAMES, processors), os.devnull, 3)
-    name = f"`melzudek sweep` of {MANY} machines over `sort`, {processors} processors"
-    yield f"| | {name} | {run.told(MANY * len(stored_trace()), 'line')} |"
+    name = f"`melzudek sweep`, {MANY} machines on {processors} processors"
+    yield f"| {name} | {run.told(MANY * len(stored_trace()), 'line')} |"
+    source, _ = bench.write("start", [MACHINES["the largest"]])
+    run = bench.clocked([bench.programs["mmsim"], "run"], source)
+    yield f"| the largest machine's start (goal: 0.030 s) | {run.told(1, 'start')} |"
 
 
 # Sizes
 
 
 def growth(bench: Bench) -> Rows:
-    """Smaller and larger machines, and smaller and larger working sets."""
-    yield "| Input | Size | Instructions a line |"
+    """Smaller and larger machines, and smaller and larger working sets: a row for what grows."""
+    yield "| | Size | Instructions a line |"
     yield "|---|---|---|"
-    for frames in (16, 64, 1024):
-        line, _ = bench.beyond_set_up(f"trace-{frames}", stored_trace(frames))
-        yield f"| g | {frames:,} frames | {line:,.0f} |"
-    rows = [
-        *inputs.sized_scripts(bench.seed, 20_000 // bench.part),
-        *inputs.paged_scripts(bench.seed),
-    ]
-    for number, it in enumerate(rows):
-        line = bench.lines_beyond(f"growth-{number}", it.script, it.lines)
-        yield f"| {it.case} | {it.size} | {line:,.0f} |"
+    sizes, lines = (16, 64, 1024), []
+    for frames in sizes:
+        lines.append(bench.beyond_set_up(f"trace-{frames}", stored_trace(frames))[0])
+    yield grown("g", sizes, "page frames", lines)
+    for number, it in enumerate(inputs.growing(bench.seed, 20_000 // bench.part)):
+        lines = [
+            bench.lines_beyond(f"growth-{number}-{size}", partial(it.script, size), count)
+            for size, count in it.sizes.items()
+        ]
+        yield grown(it.case, list(it.sizes), it.unit, lines)
+
+
+def grown(case: str, sizes: Sequence[int], unit: str, lines: Sequence[float]) -> str:
+    """A row: the sizes of what grows, and a line's instructions at each."""
+    told = ", ".join(f"{size:,}" for size in sizes)
+    return f"| {case} | {told} {unit} | {'; '.join(f'{it:,.0f}' for it in lines)} |"
 
 
 def handles(bench: Bench) -> Rows:
