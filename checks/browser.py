@@ -171,7 +171,9 @@ class Browser:
 
     def key(self, key: str, modifiers: int = 0) -> None:
         """A key, with 2 for Ctrl and 8 for Shift."""
-        more = {"code": key, "windowsVirtualKeyCode": KEYS[key]} if key in KEYS else {}
+        more: dict[str, Any] = {}
+        if key in KEYS:
+            more = {"code": key, "windowsVirtualKeyCode": KEYS[key]}
         for kind in ("keyDown", "keyUp"):
             self.ask("Input.dispatchKeyEvent", type=kind, key=key, modifiers=modifiers, **more)
 
