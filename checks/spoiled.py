@@ -317,8 +317,6 @@ SPOILS = [
           edited("examples/sort.table", "49,274", "49,275"), "examples/sort.table"),
     Spoil("traces", "a stored script",
           edited("examples/two-processes.mm", "age ", "age  "), "examples/two-processes.mm"),
-    Spoil("traces", "an mmlog that counts otherwise",
-          piped("mmlog", "check", "s/^soft .*$/soft 1/"), "traces: "),
     Spoil("wine", "a difference that the list has not",
           edited("tests/windows/results/wine-8.0-known.txt", "64 flush-free:3", "64 flush-free:4"),
           "wine: .*flush-free"),
