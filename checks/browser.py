@@ -1,6 +1,6 @@
 """A headless Chromium that is led through its debugging pipe; Python's library alone is needed.
 
-checks/page.py and checks/web.py lead it, and tools/bench.
+checks/page.py and checks/web.py lead it.
 """
 
 from __future__ import annotations
@@ -14,6 +14,8 @@ import subprocess
 import tempfile
 import time
 from typing import Any
+
+from common import apt
 
 NAMES = ("chromium", "chromium-browser")
 EVENTS = ("Runtime.exceptionThrown", "Log.entryAdded", "Runtime.consoleAPICalled")
@@ -33,11 +35,8 @@ def find_browser() -> str | None:
     """
     if os.environ.get("MELZUDEK_NO_BROWSER") == "1":
         return None
-    if not any(map(shutil.which, NAMES)) and os.geteuid() == 0 and shutil.which("apt-get"):
-        for words in (["update"], ["install", "-y", "chromium"]):
-            subprocess.run(
-                ["apt-get", *words], stdout=subprocess.DEVNULL, stderr=subprocess.DEVNULL
-            )
+    if not any(map(shutil.which, NAMES)):
+        apt(["chromium"])
     for name in NAMES:
         if shutil.which(name):
             return name
@@ -172,7 +171,9 @@ class Browser:
 
     def key(self, key: str, modifiers: int = 0) -> None:
         """A key, with 2 for Ctrl and 8 for Shift."""
-        more = {"code": key, "windowsVirtualKeyCode": KEYS[key]} if key in KEYS else {}
+        more: dict[str, Any] = {}
+        if key in KEYS:
+            more = {"code": key, "windowsVirtualKeyCode": KEYS[key]}
         for kind in ("keyDown", "keyUp"):
             self.ask("Input.dispatchKeyEvent", type=kind, key=key, modifiers=modifiers, **more)
 

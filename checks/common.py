@@ -13,12 +13,15 @@ missing is a difference, and so is a check that compared nothing.
 from __future__ import annotations
 
 import argparse
+import contextlib
 import difflib
+import fcntl
 import os
 import re
 import shutil
 import subprocess
 import sys
+import tempfile
 import threading
 from pathlib import Path
 from typing import Iterator, NamedTuple, Optional, Sequence, Union
@@ -119,19 +122,41 @@ def short(thing: object) -> str:
     return spelled if len(spelled) <= 200 else spelled[:120] + ".." + spelled[-70:]
 
 
+def processors() -> int:
+    """How many processors a check may take: those that checks/all.py gives it, else all."""
+    return int(os.environ.get("MELZUDEK_PROCESSORS", "0")) or os.cpu_count() or 1
+
+
+@contextlib.contextmanager
+def alone(name: str) -> Iterator[None]:
+    """What only one of this machine's checks does at a time."""
+    with open(Path(tempfile.gettempdir(), f"melzudek-{name}.lock"), "a", encoding="ascii") as lock:
+        fcntl.flock(lock, fcntl.LOCK_EX)
+        yield
+
+
+def apt(packages: Sequence[str], seconds: Optional[float] = None) -> None:
+    """Installs Debian's packages, where that may be; whether it did is seen afterwards."""
+    if os.geteuid() != 0 or not shutil.which("apt-get"):
+        return
+    with alone("apt"):
+        for words in (["update"], ["install", "-y", "--no-install-recommends", *packages]):
+            # (no pipe: what an installation leaves running would keep it open)
+            with contextlib.suppress(subprocess.TimeoutExpired):
+                subprocess.run(
+                    ["apt-get", "-o", "DPkg::Lock::Timeout=300", *words],
+                    stdin=subprocess.DEVNULL,
+                    stdout=subprocess.DEVNULL,
+                    stderr=subprocess.DEVNULL,
+                    env={**os.environ, "DEBIAN_FRONTEND": "noninteractive"},
+                    timeout=seconds,
+                )
+
+
 def debian(command: str, package: str) -> bool:
     """Whether a command is there; where it is missing its package is installed, if that may be."""
-    if shutil.which(command):
-        return True
-    if os.geteuid() == 0 and shutil.which("apt-get"):
-        for words in (["update"], ["install", "-y", "--no-install-recommends", package]):
-            subprocess.run(
-                ["apt-get", *words],
-                stdin=subprocess.DEVNULL,
-                stdout=subprocess.DEVNULL,
-                stderr=subprocess.DEVNULL,
-                env={**os.environ, "DEBIAN_FRONTEND": "noninteractive"},
-            )
+    if not shutil.which(command):
+        apt([package])
     return shutil.which(command) is not None
 
 

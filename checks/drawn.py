@@ -18,14 +18,13 @@ import argparse
 import concurrent.futures
 import datetime
 import importlib
-import os
 import random
 import re
 import sys
 import zlib
 from typing import Any, Callable, NamedTuple, Optional
 
-from common import TOP, begin, run
+from common import TOP, begin, processors, run
 from stores import first_difference, without_threads
 
 sys.path.insert(0, str(TOP / "checks/reference"))
@@ -418,7 +417,7 @@ def main() -> int:
         for at in range(words.scripts)
     ]
     moves = spoils = 0
-    with concurrent.futures.ProcessPoolExecutor(os.cpu_count()) as pool:
+    with concurrent.futures.ProcessPoolExecutor(processors()) as pool:
         for result in pool.map(compare, tasks):
             check.compared += result.lines + result.spoils
             moves, spoils = moves + result.moves, spoils + result.spoils

@@ -8,12 +8,11 @@ paging, no more. tests/rows/README.md says what the scripts are.
 
 from __future__ import annotations
 
-import os
 import sys
 from concurrent.futures import ThreadPoolExecutor
 from typing import Optional
 
-from common import Check, begin, text
+from common import Check, begin, processors, text
 
 NOT_READ = "raise 0xC0000006"
 ROW = "tests/rows/decommit-and-commit"
@@ -225,7 +224,7 @@ def each_call(check: Check, name: str) -> None:
 
 def main() -> int:
     check = begin(__doc__, ("mmsim", "mmlog"))
-    with ThreadPoolExecutor(os.cpu_count()) as pool:
+    with ThreadPoolExecutor(processors()) as pool:
         tasks = [pool.submit(it, check) for it in (cut_scripts, odd_bytes, most_lines)]
         tasks.append(pool.submit(far_past_the_frames, check))
         tasks += [

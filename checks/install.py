@@ -229,8 +229,9 @@ def main() -> int:
         return check.end()
     with tempfile.TemporaryDirectory(prefix="install-") as room:
         place = install(check, room)
-        for part in PARTS if place else ():
-            part(place)
+        if place is not None:
+            for part in PARTS:
+                part(place)
     return check.end()
 
 

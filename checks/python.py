@@ -12,7 +12,8 @@
 It needs Debian's Python with the packages of PACKAGES, which it installs where it may; what is not
 to be had is left out, and the check says so. Without words the programs are those that the gate
 built, crates/NAME/out/NAME; with --bin, or MELZUDEK_BIN, those of a folder; a PROGRAM is a file
-whose name begins with the program's. The last line is `python: N compared, no differences`.
+whose name begins with the program's. --only STEP does one step, style, tests, sweep or notebook.
+The last line is `python: N compared, no differences`.
 """
 
 from __future__ import annotations
@@ -21,13 +22,15 @@ import argparse
 import json
 import os
 import re
-import shutil
 import subprocess
 import sys
 import tempfile
 from collections.abc import Sequence
 from pathlib import Path
 from typing import Any, Optional
+
+sys.path.insert(0, os.path.dirname(os.path.abspath(__file__)))
+from common import apt  # noqa: E402
 
 TOP = Path(__file__).resolve().parent.parent
 PYTHON = TOP / "python"
@@ -100,25 +103,11 @@ def has(name: str) -> bool:
     return subprocess.run(words).returncode == 0
 
 
-def install(packages: Sequence[str]) -> None:
-    """Installs Debian's packages, where that may be; whether it did is seen afterwards."""
-    if os.geteuid() != 0 or not shutil.which("apt-get"):
-        return
-    for words in (["update"], ["install", "-y", "--no-install-recommends", *packages]):
-        subprocess.run(
-            ["apt-get", "-o", "DPkg::Lock::Timeout=300", *words],
-            stdin=subprocess.DEVNULL,
-            stdout=subprocess.DEVNULL,
-            stderr=subprocess.DEVNULL,
-            env={**os.environ, "DEBIAN_FRONTEND": "noninteractive"},
-        )
-
-
 def missing(packages: dict[str, str]) -> list[str]:
     """The libraries that are not there and cannot be installed."""
     lacking = [name for name in packages if not has(name)]
     if lacking:
-        install([packages[name] for name in lacking])
+        apt([packages[name] for name in lacking])
         lacking = [name for name in lacking if not has(name)]
     return lacking
 
@@ -272,12 +261,31 @@ def environment(given: argparse.Namespace) -> dict[str, str]:
     return {**os.environ, **named, "PYTHONPATH": str(PYTHON), "PYTHONDONTWRITEBYTECODE": "1"}
 
 
+STEPS = {"tests": try_tests, "sweep": try_sweep, "notebook": try_notebook}
+
+
+def do_steps(check: Check, lacking: Sequence[str], only: Optional[str]) -> None:
+    """The steps whose packages are there, or one of them."""
+    asked = [step for name, step in STEPS.items() if only in (None, name)]
+    needed = [name for name in lacking if name not in ("black", "mypy")]
+    if needed and asked:
+        packages = ", ".join(PACKAGES[name] for name in needed)
+        check.leave_out(f"tests, sweep and notebook: {packages} cannot be installed here")
+        asked = []
+    if only in (None, "style"):
+        try_style(check, lacking)
+    for step in asked:
+        step(check)
+
+
 def main(arguments: Optional[Sequence[str]] = None) -> int:
     """Does all steps that can be done here. The status: 1 where something differs."""
     parser = argparse.ArgumentParser(description=(__doc__ or "").split(":")[0])
     parser.add_argument("--bin", metavar="FOLDER", help="the folder of the programs")
+    parser.add_argument("--only", choices=("style", *STEPS), help="one step")
     parser.add_argument("programs", nargs="*", metavar="PROGRAM", help="a program elsewhere")
-    check = Check(environment(parser.parse_args(arguments)))
+    words = parser.parse_args(arguments)
+    check = Check(environment(words))
     for name in ("mmsim", "mmlog", "mmshow"):
         path = check.environment[f"MELZUDEK_{name.upper()}"]
         if not os.access(path, os.X_OK):
@@ -292,16 +300,7 @@ def main(arguments: Optional[Sequence[str]] = None) -> int:
         check.leave_out(f"all of it: {DEBIAN} is older than Python 3.11")
         return check.end()
     try_light(check)
-    lacking = missing(PACKAGES)
-    try_style(check, lacking)
-    needed = [name for name in lacking if name not in ("black", "mypy")]
-    if needed:
-        packages = ", ".join(PACKAGES[name] for name in needed)
-        check.leave_out(f"tests, sweep and notebook: {packages} cannot be installed here")
-    else:
-        try_tests(check)
-        try_sweep(check)
-        try_notebook(check)
+    do_steps(check, missing(PACKAGES), words.only)
     return check.end()
 
 

@@ -13,12 +13,11 @@ lines checks/reference/bulk.py draws from the seed.
 
 from __future__ import annotations
 
-import os
 import re
 import sys
 from concurrent.futures import ThreadPoolExecutor
 
-from common import TOP, Check, Row, begin, maybe, read, rows_of, run, table
+from common import TOP, Check, Row, begin, maybe, processors, read, rows_of, run, table
 from stores import first_difference, without_threads
 
 sys.path.insert(0, str(TOP / "checks/reference"))
@@ -143,7 +142,7 @@ def four_lines(answers: list[str]) -> str:
 
 def main() -> int:
     check = begin(__doc__, ("mmsim", "mmlog", "mmunpaged"))
-    with ThreadPoolExecutor(os.cpu_count()) as pool:
+    with ThreadPoolExecutor(processors()) as pool:
         tasks = [pool.submit(compare_generated, check)]
         for row in rows_of("tests/rows", "examples"):
             tasks += [pool.submit(it, check, row) for it in (compare_row, compare_stores)]

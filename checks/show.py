@@ -22,14 +22,13 @@ from __future__ import annotations
 import argparse
 import concurrent.futures
 import importlib
-import os
 import random
 import re
 import sys
 import tempfile
 from typing import Any, Iterator, NamedTuple, Optional
 
-from common import TOP, Check, Ended, begin, read, run, table, text
+from common import TOP, Check, Ended, begin, processors, read, run, short, table, text
 
 sys.path.insert(0, str(TOP / "checks/reference"))
 sys.dont_write_bytecode = True
@@ -247,7 +246,7 @@ def compare_answers(check: Check, room: str) -> None:
     ended = check.run("mmsim", ["run"], script)
     said = ended.out.splitlines(True)
     other = check.run("mmsim", ["run"], read("examples/first.mm")).out
-    cases = [
+    cases: list[tuple[str, list[bytes], Optional[int]]] = [
         ("one too few", said[:-1], len(said)),
         ("none", [], 1),
         ("one too many", said + [b"ok\n"], len(said) + 1),
@@ -315,20 +314,29 @@ def compare_ends(check: Check, room: str) -> None:
     )
 
 
-def compare_ledgers(check: Check) -> None:
-    """The second reader, on drawn logs: `counts`, the state after some lines, and `faults`."""
-    for seed in LEDGERS[:: 10 if check.words.few else 1]:
-        log = check.run("mmsim", ["run"], drawn(seed)).err.decode()
-        lines = log.count("at ")
-        draw = random.Random(seed)
-        told = ledger.counts(log)
-        got = check.run("mmshow", ["counts"], log.encode()).out.decode()
-        check.same(f"ledger {seed}: counts", got.splitlines()[1:], told)
-        for line in (draw.randint(1, lines), lines):
-            got = check.run("mmshow", ["state", str(line)], log.encode()).out.decode()
-            check.same(f"ledger {seed}: state {line}", got.splitlines(), ledger.state(log, line))
-        got = check.run("mmshow", ["faults"], log.encode()).out.decode()
-        check.same(f"ledger {seed}: faults", ledger.read_faults(got), ledger.faults(log))
+def ledger_complaints(programs: tuple[str, str], seed: int) -> tuple[int, list[str]]:
+    """The second reader, on a drawn log: `counts`, the state after some lines, and `faults`."""
+    mmsim, mmshow = programs
+    log = run([mmsim, "run"], drawn(seed)).err
+    plain, draw = log.decode(), random.Random(seed)
+
+    def rows(*words: str) -> list[str]:
+        return run([mmshow, *words], log).out.decode().splitlines()
+
+    lines = plain.count("at ")
+    pairs: list[tuple[str, Any, Any]] = [
+        ("counts", rows("counts")[1:], ledger.counts(plain)),
+    ]
+    for line in (draw.randint(1, lines), lines):
+        pairs.append((f"state {line}", rows("state", str(line)), ledger.state(plain, line)))
+    said = "".join(it + "\n" for it in rows("faults"))
+    pairs.append(("faults", ledger.read_faults(said), ledger.faults(plain)))
+    bad = [
+        f"ledger {seed}: {what}: {short(got)}, not {short(wanted)}"
+        for what, got, wanted in pairs
+        if got != wanted
+    ]
+    return len(pairs), bad
 
 
 def main() -> int:
@@ -336,10 +344,14 @@ def main() -> int:
     parser.add_argument("--few", action="store_true", help="compare a tenth of the drawn logs")
     check = begin(__doc__, ("mmsim", "mmshow"), parser)
     mmshow = check.programs["mmshow"]
-    workers = os.cpu_count()
+    workers = processors()
     with tempfile.TemporaryDirectory() as room:
         with concurrent.futures.ProcessPoolExecutor(workers) as pool:
-            for task in [pool.submit(complaints, mmshow, it) for it in cases(check, room)]:
+            seeds = LEDGERS[:: 10 if check.words.few else 1]
+            programs = (check.programs["mmsim"], mmshow)
+            tasks = [pool.submit(ledger_complaints, programs, seed) for seed in seeds]
+            tasks += [pool.submit(complaints, mmshow, it) for it in cases(check, room)]
+            for task in tasks:
                 tried, bad = task.result()
                 check.compared += tried
                 for complaint in bad:
@@ -348,7 +360,6 @@ def main() -> int:
         compare_answers(check, room)
     compare_reasons(check)
     compare_faults(check)
-    compare_ledgers(check)
     return check.end()
 
 

@@ -5,7 +5,8 @@
 
 Each spoil is made in a copy of the repository, with programs that call the real ones. The check
 has to end with status 1 and say what is expected of it; on the copy without a spoil it has to pass.
-It takes some minutes, most of them for checks/show.py, and is no part of the gate. Prints a table.
+Behind a check's name stand further words of it. Each check of checks/all.py has a spoil here, or
+that is a difference. It takes some minutes, and is no part of the gate. Prints a table.
 """
 
 from __future__ import annotations
@@ -22,7 +23,7 @@ from concurrent.futures import ThreadPoolExecutor, as_completed
 from pathlib import Path
 from typing import Callable, NamedTuple
 
-from common import ALL_PROGRAMS, PROGRAMS, TOP, begin
+from common import ALL_PROGRAMS, PROGRAMS, TOP, begin, text
 
 # What makes a check quicker where it would look at much, and checks that read the crates.
 QUICK = {
@@ -30,9 +31,13 @@ QUICK = {
     "show": ["--few"],
     "drawn": ["--seed", "1", "--scripts", "10", "--lines", "1000"],
     "outside": ["--descriptors"],
+    "web": ["--tried"],
 }
+# Checks that take their programs by place, and what is left out of them: a browser.
+BY_PLACE = {"page": ("mmsim", "mmshow"), "traces": ("mmsim", "mmlog", "mmshow")}
+LEFT = {"page": {"MELZUDEK_NO_BROWSER": "1"}}
 WHOLE = ("faces", "prose", "documents")
-KEPT = (".ci", "checks", "crates", "docs", "examples", "tests", "tools", "web")
+KEPT = (".ci", "checks", "crates", "docs", "examples", "python", "tests", "tools", "web")
 
 
 class Room:
@@ -85,21 +90,30 @@ class Room:
     def lose(self, name: str) -> None:
         (self.bin / name).unlink()
 
-    def check(self, name: str) -> "tuple[int, str]":
-        """The status and the output of a check here."""
-        words = [sys.executable, "-B", f"checks/{name}.py", "--bin", str(self.bin)]
-        words += QUICK.get(name, [])
-        if name.startswith("all "):
-            words = [sys.executable, "-B", "checks/all.py", "--bin", str(self.bin), name[4:]]
+    def words(self, name: str, more: list[str]) -> list[str]:
+        """The command of a check here."""
         if name == "memory":
-            words = [sys.executable, "-B", "tools/refused-memory", "tests/rows/reserve-section.mm"]
+            words = ["tools/refused-memory", "tests/rows/reserve-section.mm"]
             words += [it for kind in PROGRAMS for it in (f"--{kind}", str(self.bin / kind))]
+            return [sys.executable, "-B", *words]
         if name == "run":
-            words = ["bash", ".ci/run"]
+            return ["bash", ".ci/run"]
+        if name in BY_PLACE:
+            # (by its first line, where it needs Debian's packages)
+            first = ["checks/traces"] if name == "traces" else [sys.executable, "checks/page.py"]
+            return [*first, *(str(self.bin / it) for it in BY_PLACE[name])]
+        words = [sys.executable, "-B", f"checks/{name}.py", "--bin", str(self.bin)]
+        return [*words, *QUICK.get(name, []), *more]
+
+    def check(self, asked: str) -> "tuple[int, str]":
+        """The status and the output of a check here."""
+        name, *more = asked.split()
         env = {**os.environ, "PATH": f"{self.bin}:{os.environ['PATH']}"}
+        env.update(LEFT.get(name, {}), PYTHONDONTWRITEBYTECODE="1")
         if name == "run":
             env["MELZUDEK_BIN"] = str(self.bin)
-        ended = subprocess.run(words, cwd=self.top, env=env, capture_output=True, timeout=1200)
+        words = self.words(name, more)
+        ended = subprocess.run(words, cwd=self.top, env=env, capture_output=True, timeout=1800)
         return ended.returncode, (ended.stdout + ended.stderr).decode(errors="replace")
 
 
@@ -277,6 +291,41 @@ SPOILS = [
           "mm_bits/README.md: has .* at most 3"),
     Spoil("documents", "documents that are too large together",
           lambda room: room.add("docs/WRITTEN.md", "\nA line.\n" * 9000), "docs/: has .* at most"),
+    Spoil("install", "a form that a page of the manual has not",
+          edited("docs/man/mmlog.1.scd", "*mmlog where* _KEY_ < _LOG_", ""), "mmlog: synopsis"),
+    Spoil("install", "a status of a page of the manual",
+          edited("docs/man/mmlog.1.scd", "memory was refused", "memory ran out"),
+          "mmlog: statuses"),
+    Spoil("install", "completions that give no forms",
+          edited("tools/completions.bash", "Commands|positional", "Forms|positional"),
+          "forms are completed"),
+    Spoil("install", "an installed program that is another",
+          stub("mmsim", '[ "$1" != run ] || exit 0\nexec "$real" "$@"'), "install: mmsim"),
+    Spoil("python --only style", "a function without types",
+          lambda room: room.add("python/melzudek/errors.py", "\n\ndef same(it):\n    return it\n"),
+          "mypy --strict ends"),
+    Spoil("python --only style", "a line that is not laid out",
+          lambda room: room.add("python/melzudek/errors.py", "\n\nWORDS = ( 1,2 )\n"),
+          "black.*ends"),
+    Spoil("python --only sweep", "an mmlog that counts one hard fault more",
+          piped("mmlog", "check", "s/^hard .*$/hard 9999/"), "the counts of"),
+    Spoil("page", "a page that is not the program's own",
+          edited("web/page.html", "<html", "<html  "), "web/pack --check"),
+    Spoil("page", "an mmshow that writes one more byte",
+          piped("mmshow", "html*", "s/^<title>/<title> /"), "the page's bytes"),
+    Spoil("traces", "a number of a stored table",
+          edited("examples/sort.table", "49,274", "49,275"), "examples/sort.table"),
+    Spoil("traces", "a stored script",
+          edited("examples/two-processes.mm", "age ", "age  "), "examples/two-processes.mm"),
+    Spoil("wine", "a difference that the list has not",
+          edited("tests/windows/results/wine-8.0-known.txt", "64 flush-free:3", "64 flush-free:4"),
+          "wine: .*flush-free"),
+    Spoil("wine", "an mmsim that answers 487 for 87",
+          piped("mmsim", "run", "s/^error 87$/error 487/"), "wine: .*error"),
+    Spoil("web", "a native mmlog that tells another line",
+          piped("mmlog", "check", "s/^no line .*1$/no line 1/"), "web: mmlog.*differ"),
+    Spoil("web", "a page whose worker is cut",
+          edited("web/release/play.html", "postMessage", "postMesage"), "web: "),
     Spoil("tries", "a form of tools/try",
           edited("tools/try", '    "probe": ', '    "prob": '), "forms"),
     Spoil("all hostile", "a check that is missing",
@@ -287,10 +336,22 @@ SPOILS = [
 ]  # fmt: skip
 
 
+def is_whole(asked: str) -> bool:
+    """Whether a check reads the crates, or writes among the sources."""
+    return asked.split()[0] in WHOLE
+
+
+def without_spoil() -> list[str]:
+    """The checks of checks/all.py that nothing here spoils."""
+    found = re.search(r'^CHECKS = """(.*?)"""', text("checks/all.py"), re.MULTILINE | re.DOTALL)
+    spoiled = {it.check.split()[0] for it in SPOILS}
+    return [it for it in (found[1].split() if found else ["CHECKS"]) if it not in spoiled]
+
+
 def tried(spoil: Spoil, programs: dict[str, str]) -> tuple[bool, str]:
     """Whether the check refuses a spoil as expected, and the first line that it says."""
     with tempfile.TemporaryDirectory(prefix="spoiled-") as folder:
-        room = Room(folder, programs, spoil.check in WHOLE)
+        room = Room(folder, programs, is_whole(spoil.check))
         try:
             spoil.how(room)
         except (OSError, ValueError) as wrong:
@@ -306,7 +367,7 @@ def unspoiled(name: str, programs: dict[str, str]) -> str:
     if name in ("faces", "run") or name.startswith("all "):
         return ""
     with tempfile.TemporaryDirectory(prefix="spoiled-") as folder:
-        status, said = Room(folder, programs, name in WHOLE).check(name)
+        status, said = Room(folder, programs, is_whole(name)).check(name)
     return "" if status == 0 else said[-200:]
 
 
@@ -316,7 +377,8 @@ def main() -> int:
     parser.add_argument("--spoils", action="store_true", help="no copies without a spoil")
     parser.add_argument("--at-once", type=int, default=2, help="how many at once")
     check = begin(__doc__, PROGRAMS, parser)
-    spoils = [it for it in SPOILS if check.words.only in (None, it.check)]
+    check.same("checks without a spoil", without_spoil(), [])
+    spoils = [it for it in SPOILS if check.words.only in (None, it.check.split()[0])]
     names = sorted({it.check for it in spoils})
     with ThreadPoolExecutor(check.words.at_once) as pool:
         wholes = {}

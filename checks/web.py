@@ -38,6 +38,7 @@ sys.path.insert(0, os.path.join(TOP, "checks"))
 sys.dont_write_bytecode = True
 
 import web_page  # noqa: E402
+from common import apt, processors  # noqa: E402
 
 BUILTINS = "/usr/lib/llvm-*/lib/clang/*/lib/wasi/libclang_rt.builtins-wasm32.a"
 NEEDED = {
@@ -202,7 +203,7 @@ def by_node(cases: List[Case], room: str) -> List[List]:
         [program, words, put(given), {name: put(data) for name, data in files.items()}]
         for program, words, given, files in cases
     ]
-    shares = os.cpu_count() or 1
+    shares = processors()
     parts = [(told[at::shares], f"{room}/{at}") for at in range(shares)]
     with concurrent.futures.ThreadPoolExecutor(shares) as pool:
         found = list(pool.map(by_one_node, parts))
@@ -229,7 +230,7 @@ def compare(native: Native, seed: int) -> Tuple[int, int]:
     draw = random.Random(seed)
     cases = of_mmsim(draw, native) + of_mmnames(draw) + of_logs(draw, native)
     with tempfile.TemporaryDirectory() as room:
-        with concurrent.futures.ThreadPoolExecutor(os.cpu_count()) as pool:
+        with concurrent.futures.ThreadPoolExecutor(processors()) as pool:
             wanted = list(pool.map(native.result, cases))
         got = by_node(cases, room)
     bad = 0
@@ -247,16 +248,6 @@ def compare(native: Native, seed: int) -> Tuple[int, int]:
 
 
 # ---- what it needs
-
-
-def install(packages: List[str]) -> None:
-    """Installs packages where that may be done."""
-    if os.geteuid() or not shutil.which("apt-get"):
-        return
-    quiet = {"stdout": subprocess.DEVNULL, "stderr": subprocess.DEVNULL}
-    subprocess.run(["apt-get", "update"], **quiet)
-    words = ["apt-get", "install", "-y", "--no-install-recommends", *packages]
-    subprocess.run(words, **quiet)
 
 
 def lacking() -> List[str]:
@@ -289,7 +280,7 @@ def main(arguments: List[str]) -> int:
         print(f"web: {native.lacking()[0]} is missing: let the gate build it, or name --bin")
         return 1
     if lacking():
-        install(lacking())
+        apt(lacking())
     if lacking():
         print(f"web: left out, since these packages cannot be had: {', '.join(lacking())}")
         print("web: 0 compared, no differences")

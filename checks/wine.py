@@ -31,11 +31,12 @@ TOOLS, RESULTS = TOP / "tools" / "windows", TOP / "tests" / "windows" / "results
 DOCUMENT = TOP / "docs" / "WINDOWS.md"
 # The last cell of a line of docs/WINDOWS.md that is about rows.
 ROWS_OF = re.compile(r"\| ((?:`[a-z0-9-]+`, )+)(?:certain|likely|unsure) \|$")
-sys.path.insert(0, str(TOOLS))
+sys.path[:0] = [str(TOOLS), str(TOP / "checks")]
 
 import draw  # noqa: E402
 import held  # noqa: E402
 import reasons  # noqa: E402
+from common import apt  # noqa: E402
 
 PACKAGES = ["wine64", "gcc-mingw-w64-x86-64"]
 COMPILER, COMPILER_32 = "x86_64-w64-mingw32-gcc", "i686-w64-mingw32-gcc"
@@ -69,11 +70,7 @@ def installed() -> bool:
     """Whether Wine and the compiler are here; where they are not, tries to install them."""
     if found(PLACES_64) and shutil.which(COMPILER):
         return True
-    if os.geteuid() == 0 and shutil.which("apt-get"):
-        environment = os.environ | {"DEBIAN_FRONTEND": "noninteractive"}
-        install = ["apt-get", "install", "-y", "--no-install-recommends", *PACKAGES]
-        for command in (["apt-get", "update"], install):
-            quietly(command, environment, 1200)
+    apt(PACKAGES, 1200)
     return bool(found(PLACES_64) and shutil.which(COMPILER))
 
 

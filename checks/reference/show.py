@@ -16,6 +16,7 @@
 
 It stands on life.py, an independent replay of a log.
 """
+import functools
 import itertools
 import re
 import sys
@@ -393,38 +394,44 @@ def spelled(data):
     return moves, None
 
 
-def check(l, m, line):
-    """Raises BadLog where the move is not legal."""
-    why = refusal(l, m)
-    if why is not None:
-        raise BadLog(line, "%s: %s" % (spell_move(m), why))
+@functools.lru_cache(maxsize=2)
+def steps(data):
+    """The log's moves; the class of each that is legal and facts for its words; what is wrong behind them, or None.
 
-
-def walk(data, seen, ended=lambda l: None):
-    """Replays; calls seen(l, m, code, facts) after each move, and ended(l) after each line.  `facts` are texts for the words."""
+    A log is mostly asked about in several ways, one after another: its moves are judged once.
+    """
     l, marks = Life(), Marks()
     moves, bad = spelled(data)
-    before = None
-    if moves:
-        check(l, moves[0], 1)
+    told, before = [], None
+    why = refusal(l, moves[0]) if moves else None
     for at, m in enumerate(moves):
+        if why is not None:
+            return moves, told, BadLog(at + 1, "%s: %s" % (spell_move(m), why))
         after = moves[at + 1] if at + 1 < len(moves) else None
-        if m[0] == "at" and l.line:
-            ended(l)
         # the class of a move hangs on the next one, where that is legal
         code, last_code = class_of(l, marks, before, m, after), class_of(l, marks, before, m, None)
         facts = facts_before(l, m)
         if not l.apply(m):
             raise AssertionError("%s is legal by refusals.py alone" % spell_move(m))
-        refused = after and refusal(l, after)
+        why = refusal(l, after) if after else None
         marks.follow(m)
         facts_after(l, m, code, facts)
-        seen(l, m, last_code if refused else code, facts)
-        if after:
-            check(l, after, at + 2)
+        told.append((last_code if why else code, facts))
         before = m
+    return moves, told, bad
+
+
+def walk(data, seen, ended=lambda l: None):
+    """Replays; calls seen(l, m, code, facts) after each move, and ended(l) after each line.  `facts` are texts for the words."""
+    moves, told, bad = steps(data)
+    l = Life()
+    for m, (code, facts) in zip(moves, told):
+        if m[0] == "at" and l.line:
+            ended(l)
+        l.apply(m)
+        seen(l, m, code, facts)
     if bad:
-        raise bad
+        raise BadLog(bad.line, bad.why)
     if l.line:
         ended(l)
     return l
