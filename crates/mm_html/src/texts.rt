@@ -2279,11 +2279,11 @@ const title = `<summary>${spelled(moves.length)} moves, in their order</summary>
 const fold = `<details data-fold${open}>${title}${listOf(each)}</details>`;\n\
 return listOf(items) + (moves.length > 1 ? fold : '');\n\
 }\n\
-function unwrittenOf({ kind, text }, moves, { lists, requests }) {\n\
+function unwrittenOf({ kind, text }, moves, { lists, requests, slots }) {\n\
 const begun = moves.filter(({ class: { word } }) => word === 'write').length;\n\
 const left = lists[MODIFIED].length;\n\
 const mayGoOn = begun < Number(text.split(' ')[1]) && requests.length < data.machine.depth;\n\
-if (kind !== 'writer' || !mayGoOn || !left) return '';\n\
+if (kind !== 'writer' || !mayGoOn || !left || slots) return '';\n\
 const pages = spelled(left) + (left > 1 ? ' modified pages are' : ' modified page is');\n\
 return `<p class=\"not-ok\">No slot of the paging file is free: ${pages} not written.</p>`;\n\
 }\n\
