@@ -347,11 +347,11 @@ def compare_writers(check: Check, room: str) -> None:
                 show.answer(words, ended.err),
                 (got.status, got.out.decode()),
             )
-        cut = ended.err[:-1]
-        got = check.run("mmshow", ["tell", files[0]], cut)
-        status, said = show.answer(["tell", files[0]], cut)
+        bad = ended.err + b"no move\n"
+        got = check.run("mmshow", ["tell", files[0]], bad)
+        status, said = show.answer(["tell", files[0]], bad)
         wrong = differing(got, (status, said.encode("latin-1")))
-        check.holds(f"a cut log of {count} lines of writers", not wrong, wrong or "")
+        check.holds(f"a bad log of {count} lines of writers", not wrong, wrong or "")
 
 
 def compare_ledgers(check: Check) -> None:
