@@ -314,6 +314,45 @@ def compare_ends(check: Check, room: str) -> None:
     )
 
 
+# A paging file of one slot, three changed pages, and one request at a time.
+FULL = b"machine 8 1 1 0\nprocess 0 8\nalloc 1 0x10000 0x3000 0x3000 0x4\n"
+FULL += b"write 1 0x10000 01\nwrite 1 0x11000 01\nwrite 1 0x12000 01\ntrim 1 8\n"
+# Each line, and how many pages are told to be left for want of slots.
+WRITERS = [
+    (b"writer 3", 0),  # the one slot is taken, and the one request is in flight
+    (b"io 1", 0),
+    (b"writer 0", 0),
+    (b"writer 0x4", 2),
+    (b"zeroer 1", 0),
+    (b"writer  1", 0),  # no line: the run ends
+]
+
+
+def compare_writers(check: Check, room: str) -> None:
+    """A writer that finds no slot says so, in front of the next line and at the end of a log."""
+    row = "     no slot of the paging file is free: 2 modified pages are not written"
+    for count in range(1, len(WRITERS) + 1):
+        lines = WRITERS[:count]
+        script = FULL + b"".join(line + b"\n" for line, _ in lines)
+        ended = check.run("mmsim", ["run"], script)
+        files = written(room, f"writers-{count}", script, ended.out)
+        for words in (["tell", *files], ["tell", files[0]], ["tell"]):
+            got = check.run("mmshow", words, ended.err)
+            said = got.out.decode().count(row + "\n")
+            wanted = sum(1 for _, left in lines if left) if words[1:] else 0
+            check.same(f"{count} lines of writers, {len(words)} words", said, wanted)
+            check.same(
+                f"the reference of it, {count}, {len(words)}",
+                show.answer(words, ended.err),
+                (got.status, got.out.decode()),
+            )
+        bad = ended.err + b"no move\n"
+        got = check.run("mmshow", ["tell", files[0]], bad)
+        status, said = show.answer(["tell", files[0]], bad)
+        wrong = differing(got, (status, said.encode("latin-1")))
+        check.holds(f"a bad log of {count} lines of writers", not wrong, wrong or "")
+
+
 def ledger_complaints(programs: tuple[str, str], seed: int) -> tuple[int, list[str]]:
     """The second reader, on a drawn log: `counts`, the state after some lines, and `faults`."""
     mmsim, mmshow = programs
@@ -358,6 +397,7 @@ def main() -> int:
                     check.wrong("texts", complaint)
         compare_remarks(check, room)
         compare_answers(check, room)
+        compare_writers(check, room)
     compare_reasons(check)
     compare_faults(check)
     return check.end()

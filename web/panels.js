@@ -92,11 +92,11 @@ function makePanels({ data, survey, waits, view, regions, charge, shown }) {
   }
   // A writer that begins fewer write-outs than it might: the pages that are left have no slot to
   // go to. Its answer is `ok` all the same.
-  function unwrittenOf({ kind, text }, moves, { lists, requests }) {
+  function unwrittenOf({ kind, text }, moves, { lists, requests, slots }) {
     const begun = moves.filter(({ class: { word } }) => word === 'write').length;
     const left = lists[MODIFIED].length;
     const mayGoOn = begun < Number(text.split(' ')[1]) && requests.length < data.machine.depth;
-    if (kind !== 'writer' || !mayGoOn || !left) return '';
+    if (kind !== 'writer' || !mayGoOn || !left || slots) return '';
     const pages = spelled(left) + (left > 1 ? ' modified pages are' : ' modified page is');
     return `<p class="not-ok">No slot of the paging file is free: ${pages} not written.</p>`;
   }

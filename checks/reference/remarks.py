@@ -168,3 +168,19 @@ def why_chosen(code: str, place: Place, age: Any, is_above: bool) -> str:
         "process %d is the first above its minimum; " % place[0] if code == "T" and is_above else ""
     )
     return " [%s%s]" % (first, oldest)
+
+
+def unwritten(line: str, begun: int, life: Any) -> list[str]:
+    """What is said of a `writer` line that ended, where it could not go on for want of slots.
+
+    It had begun fewer write-outs than it was to, a request could have begun, and no slot is free.
+    """
+    words = line.split(" ")
+    asked = number(words[1]) if words[0] == "writer" and len(words) == 2 else None
+    asked = asked if asked and asked <= 1_000_000 else 0
+    left = len(life.lists["modified"])
+    can_begin = begun < asked and len(life.requests) < life.depth
+    if not left or not can_begin or life.free_slots:
+        return []
+    pages = "1 modified page is" if left == 1 else f"{left} modified pages are"
+    return [f"     no slot of the paging file is free: {pages} not written"]

@@ -592,16 +592,25 @@ def do_tell(out, data, names, is_plain):
         answer, numbers = remarks.names_of_answer(asked, said_at(n)), remarks.names_of_line(asked)
         return told + (answer and " " + answer) + (numbers and "  " + numbers)
 
+    begun: list[Any] = []  # the write-outs of the line
+    unwritten: list[str] = []  # what the line that ended left
+
     def ended(l):
         if ages:
             ages.after(script[l.line - 1], said_at(l.line))
+        if with_names:
+            unwritten[:] = remarks.unwritten(script[l.line - 1], len(begun), l)
+        begun.clear()
 
     def seen(l, m, code, d):
         if m[0] == "at":
             fold.clear()
             fits(script, answers, m)
+            out.extend(unwritten)
             out.append(row(m[1], script[m[1] - 1] if script else " ".join(str(x) for x in m[2])))
             return
+        if m[0] == "write":
+            begun.append(m)
         if ages and m[0] == "map":
             ages.use(m[2])
         if code in "cf" and not is_plain and fold and is_next(fold[-1], m):
@@ -618,6 +627,7 @@ def do_tell(out, data, names, is_plain):
 
     end = walk(data, seen, ended)
     fits_end(answers, end.line or 0)
+    out += unwritten
     if not is_plain:
         out += end_of_run(script, answers, end.line or 0)
 

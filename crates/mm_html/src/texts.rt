@@ -75,7 +75,6 @@ main { grid-template: repeat(5, auto) 1fr / 1fr 460px; }\n\
 @media (max-width: 640px) {\n\
 body { margin: 8px; }\n\
 nav { position: static; }\n\
-dl { grid-template-columns: 1fr; }\n\
 }\n\
 canvas { display: block; width: 100%; touch-action: pan-y; }\n\
 #sheet { position: relative; }\n\
@@ -113,8 +112,8 @@ i:not(.underline) { border: 1px solid var(--soft); }\n\
 .reference { background: none; color: var(--accent); }\n\
 .chips { gap: 3px; }\n\
 .chip { padding: 0 6px; border-radius: 3px; }\n\
-dl { display: grid; grid-template-columns: 116px 1fr; gap: 3px 10px; }\n\
-dt b { float: right; }\n\
+dl { display: grid; grid-template-columns: minmax(116px, max-content) 1fr; gap: 3px 10px; }\n\
+dt b { float: right; margin-left: 6px; }\n\
 table { min-width: 70%; border-collapse: collapse; }\n\
 th, td { padding: 2px 8px 2px 0; text-align: left; }\n\
 #faults :is(th, td):not(:first-child) { text-align: right; }\n\
@@ -2280,11 +2279,11 @@ const title = `<summary>${spelled(moves.length)} moves, in their order</summary>
 const fold = `<details data-fold${open}>${title}${listOf(each)}</details>`;\n\
 return listOf(items) + (moves.length > 1 ? fold : '');\n\
 }\n\
-function unwrittenOf({ kind, text }, moves, { lists, requests }) {\n\
+function unwrittenOf({ kind, text }, moves, { lists, requests, slots }) {\n\
 const begun = moves.filter(({ class: { word } }) => word === 'write').length;\n\
 const left = lists[MODIFIED].length;\n\
 const mayGoOn = begun < Number(text.split(' ')[1]) && requests.length < data.machine.depth;\n\
-if (kind !== 'writer' || !mayGoOn || !left) return '';\n\
+if (kind !== 'writer' || !mayGoOn || !left || slots) return '';\n\
 const pages = spelled(left) + (left > 1 ? ' modified pages are' : ' modified page is');\n\
 return `<p class=\"not-ok\">No slot of the paging file is free: ${pages} not written.</p>`;\n\
 }\n\

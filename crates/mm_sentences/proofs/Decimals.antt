@@ -1,8 +1,9 @@
 -- The digits of a number from the first on: those of its tenth, and the last.
-use Rattle.std.proofs.Common.{◌≡◌, ℕ, zero, suc, ◌+◌, ◌/◌, ◌%◌, ◌^◌, ◌≤◌, ◌<◌, cond, [], ◌∷◌, ◌++◌, sym, ap, ◌∙◌, inl, inr, arith, append_assoc}
+use Rattle.std.proofs.Common.{◌≡◌, ℕ, zero, suc, ◌+◌, ◌/◌, ◌%◌, ◌^◌, ◌≤◌, ◌<◌, cond, [], ◌∷◌, ◌++◌, refl, sym, ap, ◌∙◌, inl, inr, arith, append_assoc}
 use Rattle.std.proofs.lemmas.Bool.{lt-ltb, cases_lt}
 use Rattle.std.proofs.Math.Nat.{mod-eq_of_lt}
 use Rattle.mm_types.specs.{Text, glyph, decimal, decimal_onto}
+use Rattle.mm_sentences.specs.Digits.{two_digits, three_digits}
 use Rattle.mm_log_writer.proofs.{step_last, step_more, below_power, onto_append}
 
 -- room for one digit more changes nothing
@@ -49,4 +50,44 @@ number_of_two text front whole n large few e f =
     number_more text front whole n large (omega (arith, few))
     (e ∙ ap (λ t. text ++ t) (sym (number_digit (n / 10) (omega (arith, few))))) f
 
-pub ruleset decimals = (digit_low, number_digit, number_of_two, number_more)
+pub number_below_100 : (text whole : Text) (n : ℕ) → 10 ≤ n → n < 100
+    → whole ≡ text ++ two_digits n → whole ≡ text ++ decimal n
+number_below_100 text whole n large few e =
+    number_of_two text (text ++ glyph (n / 10) ∷ []) whole n large few refl
+    (e ∙ sym (append_assoc text (glyph (n / 10) ∷ []) (glyph (n % 10) ∷ [])))
+
+pub number_below_1000 : (text whole : Text) (n : ℕ) → 100 ≤ n → n < 1000
+    → whole ≡ text ++ three_digits n → whole ≡ text ++ decimal n
+number_below_1000 text whole n large few e =
+    let front : Text = text ++ glyph (n / 100) ∷ glyph (n / 10 % 10) ∷ [] in
+    let tens : n / 10 / 10 ≡ n / 100 = omega arith in
+    number_more text front whole n (omega (arith, large)) (omega (arith, few))
+    (number_below_100 text front (n / 10) (omega (arith, large)) (omega (arith, few))
+    (ap (λ (d : ℕ). text ++ glyph d ∷ glyph (n / 10 % 10) ∷ []) (sym tens)))
+    (e ∙ sym (append_assoc text (glyph (n / 100) ∷ glyph (n / 10 % 10) ∷ []) (glyph (n % 10) ∷ [])))
+
+-- three digits more, written one behind another
+pub number_and_three : (text front whole : Text) (n : ℕ) → 1000 ≤ n → n < 2 ^ 64
+    → front ≡ text ++ decimal (n / 1000) → whole ≡ front ++ three_digits (n % 1000)
+    → whole ≡ text ++ decimal n
+number_and_three text front whole n large few e f =
+    let a : ℕ = n % 1000 / 100 in
+    let b : ℕ = n % 1000 / 10 % 10 in
+    let c : ℕ = n % 1000 % 10 in
+    let one : Text = front ++ glyph a ∷ [] in
+    let two : Text = one ++ glyph b ∷ [] in
+    let hundreds : n / 10 / 10 / 10 ≡ n / 1000 = omega arith in
+    let is_a : n / 10 / 10 % 10 ≡ a = omega arith in
+    let is_b : n / 10 % 10 ≡ b = omega arith in
+    let is_c : n % 10 ≡ c = omega arith in
+    number_more text two whole n (omega (arith, large)) few
+    (number_more text one two (n / 10) (omega (arith, large)) (omega (arith, few))
+    (number_more text front one (n / 10 / 10) (omega (arith, large)) (omega (arith, few))
+    (e ∙ ap (λ (m : ℕ). text ++ decimal m) (sym hundreds))
+    (ap (λ (d : ℕ). front ++ glyph d ∷ []) (sym is_a)))
+    (ap (λ (d : ℕ). one ++ glyph d ∷ []) (sym is_b)))
+    (f ∙ sym (append_assoc front (glyph a ∷ []) (glyph b ∷ glyph c ∷ []))
+    ∙ sym (append_assoc one (glyph b ∷ []) (glyph c ∷ []))
+    ∙ ap (λ (d : ℕ). two ++ glyph d ∷ []) (sym is_c))
+
+pub ruleset decimals = (digit_low, number_digit, number_below_100, number_below_1000, number_and_three)

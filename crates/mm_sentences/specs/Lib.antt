@@ -1,5 +1,6 @@
 pub mod Words
 pub mod States
+pub mod Digits
 pub mod Facts
 pub mod Sentences
 pub mod Pieces

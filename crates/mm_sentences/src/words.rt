@@ -2,6 +2,7 @@ ghost use Rattle.std.specs.Prelude.{◌≡◌, ◌<◌, ◌^◌, ◌++◌, ◌�
 ghost use Rattle.mm_types.specs.{decimal, glyph};
 ghost use Rattle.mm_move_rules.specs.{numbered, kind_onto, place_onto};
 ghost use Rattle.mm_text.specs.{hex_short};
+ghost use Rattle.mm_sentences.specs.Digits.{two_digits, three_digits};
 ghost use Rattle.mm_sentences.specs.{key_text, kind_text, address_text, addressed, place_text};
 ghost use Rattle.mm_types.specs.declared.moves.LineKind.TheVariants as kind_of;
 
@@ -16,29 +17,53 @@ pub fn put_words(words: &[u8], text: &mut Vec<u8>) -> Result<(), NoMemory>
     Ok(())
 }
 
-/// Writes a digit below 10.
-fn put_digit(digit: u8, text: &mut Vec<u8>) -> Result<(), NoMemory>
-    requires { digit < 10 }
-    ensures { OnOk result (text.new.items ≡ text.old.items ++ glyph digit ∷ []) }
+/// A digit below 10.
+#[inline(always)]
+#[tactic(auto, using(crate::proofs::Decimals::decimals))]
+fn digit(n: u64) -> u8
+    requires { n < 10 }
+    ensures { result ≡ glyph n }
 {
-    text.push(b'0' + digit)?;
+    b'0' + n as u8
+}
+
+/// Writes the digits of a number below 100, of which the first may be 0.
+#[tactic(auto, using(crate::proofs::Decimals::decimals))]
+fn put_two(n: u64, text: &mut Vec<u8>) -> Result<(), NoMemory>
+    requires { n < 100 }
+    ensures { OnOk result (text.new.items ≡ text.old.items ++ two_digits n) }
+{
+    text.extend_from_slice(&[digit(n / 10), digit(n % 10)])?;
     Ok(())
 }
 
-/// Writes a number in decimal. Most have one or two digits, and each goes straight into the text.
+/// Writes the digits of a number below 1,000, of which the first may be 0.
+#[tactic(auto, using(crate::proofs::Decimals::decimals))]
+fn put_three(n: u64, text: &mut Vec<u8>) -> Result<(), NoMemory>
+    requires { n < 1000 }
+    ensures { OnOk result (text.new.items ≡ text.old.items ++ three_digits n) }
+{
+    text.extend_from_slice(&[digit(n / 100), digit(n / 10 % 10), digit(n % 10)])?;
+    Ok(())
+}
+
+/// Writes a number in decimal, three digits at a time.
 #[tactic(auto, using(crate::proofs::Decimals::decimals))]
 pub fn put_number(n: u64, text: &mut Vec<u8>) -> Result<(), NoMemory>
     ensures { OnOk result (text.new.items ≡ text.old.items ++ decimal n) }
 {
     if n < 10 {
-        return put_digit(n as u8, text);
+        text.push(digit(n))?;
+        return Ok(());
     }
     if n < 100 {
-        put_digit((n / 10) as u8, text)?;
-        return put_digit((n % 10) as u8, text);
+        return put_two(n, text);
     }
-    put_number(n / 10, text)?;
-    put_digit((n % 10) as u8, text)
+    if n < 1000 {
+        return put_three(n, text);
+    }
+    put_number(n / 1000, text)?;
+    put_three(n % 1000, text)
 }
 
 /// Writes words and a number.

@@ -15,6 +15,7 @@ pub mod TakenNumbers
 pub mod Transcripts
 pub mod Waiting
 pub mod Worked
+pub mod Writers
 pub use Ages.{AgesOf, at_place, at_thread, no_ages, older, older_of}
 pub use Bits.{bit_row}
 pub use Ends.{cut_text, end_text, ending_text, line_is}
@@ -35,6 +36,9 @@ pub use TakenNumbers.{AreReadAgain, taken_numbers}
 pub use Transcripts.{ages_then, reason_then, rows_from, transcript}
 pub use Waiting.{beside_of, classed_row, first_behind, rows_rest, transcript_rest}
 pub use Worked.{rewritten_rows, smallest_set_rows}
+pub use Writers.{lacks_slots, modified_pages, unwritten_before, unwritten_end, unwritten_pages}
+pub use Writers.{unwritten_row, unwritten_text, writes_asked, writes_by, writes_left, writes_of}
+unfoldable pub use Writers.{writes_read}
 pub use declared.numbers.Number.{Number}
 pub use declared.reasons.Reason.{Reason}
 pub use declared.transcripts.TranscriptTeller.{TranscriptTeller}

@@ -1,6 +1,6 @@
 -- The transcript that is still to come, from where the row of one move waits for the next move.
 -- Profile, "What a log shows".
-use Rattle.std.specs.Prelude.{Bool, List, [], ◌++◌, Option, Some, None}
+use Rattle.std.specs.Prelude.{ℕ, Bool, List, [], ◌++◌, Option, Some, None}
 use Rattle.mm_types.specs.{Text, Move}
 use Rattle.mm_move_rules.specs.{FrameLife}
 use Rattle.mm_move_classes.specs.{MarksOf, marks_of, next_of}
@@ -26,10 +26,10 @@ first_behind None next first = None
 first_behind (Some c) next first = first_then c.class c.m next first
 
 abbrev pub rows_rest : Beside → Bool → MarksOf → Option Pending → Option Move → Facts
-    → Option Reason → AgesOf → FrameLife → List Move → Text
-rows_rest b whole v p first x r a l ms =
+    → Option Reason → AgesOf → ℕ → FrameLife → List Move → Text
+rows_rest b whole v p first x r a w l ms =
     classed_row b first (next_of ms) (class_then p (next_of ms)) x r l
-    ++ rows_from b whole l v a (move_of p) (first_behind (class_then p (next_of ms)) (next_of ms)
+    ++ rows_from b whole l v a w (move_of p) (first_behind (class_then p (next_of ms)) (next_of ms)
     first) ms
 
 abbrev pub beside_of : TranscriptTeller → Beside
@@ -38,4 +38,4 @@ beside_of t = record { script = t.script.now; answers = t.answers.now }
 abbrev pub transcript_rest : TranscriptTeller → Bool → FrameLife → List Move → Text
 transcript_rest t whole l ms =
     rows_rest (beside_of t) whole (marks_of t.classifier.marks) t.classifier.pending t.first
-    t.facts t.reason (ages_of t.ages) l ms
+    t.facts t.reason (ages_of t.ages) t.left l ms

@@ -15,6 +15,7 @@ mod rows;
 mod stamps;
 mod transcripts;
 mod worked;
+mod writers;
 
 pub use ages::Ages;
 pub use name_laws::{failures_have_names, names_are_read_again};

@@ -7,6 +7,7 @@ ghost use Rattle.mm_transcripts.specs.Shown.{ages_of};
 ghost use Rattle.mm_transcripts.specs.Rows.{folded_row, row_text, told_row};
 ghost use Rattle.mm_transcripts.specs.Transcripts.{has_ages, ages_then, reason_then};
 ghost use Rattle.mm_transcripts.specs.Transcripts.{transcript};
+ghost use Rattle.mm_transcripts.specs.Writers.{writes_left};
 ghost use Rattle.mm_transcripts.specs.Waiting.{classed_row, first_behind, transcript_rest};
 ghost use Rattle.mm_sentences.specs.{why_text};
 
@@ -15,10 +16,11 @@ use crate::ends::put_ending;
 use crate::folds::{first_then, goes_on, put_fold_row};
 use crate::reasons::Reason;
 use crate::rows::{put_class_row, put_line_row};
+use crate::writers::{put_unwritten_before, put_unwritten_end, writes_asked};
 use mm_log_walk::{Classed, Classifier, Lines, Teller};
 use mm_replay::Life;
 use mm_sentences::{Facts, facts_of, no_facts, put_why};
-use mm_types::{Move, NoMemory};
+use mm_types::{LineKind, Move, NoMemory};
 use std::alloc::Global;
 
 /// A line of a script or of its answers, if that is named and has it; lines count from 1.
@@ -182,6 +184,18 @@ fn first_behind(told: Option<Classed>, next: Option<&Move>, first: Option<Move>)
     }
 }
 
+/// How many write-outs the line may begin yet, after this move.
+fn writes_left(script: &Option<Lines>, left: u32, m: &Move) -> u32
+    ensures { result ≡ writes_left script.now left m.now }
+{
+    match *m {
+        Move::At(number, LineKind::Writer) => writes_asked(line_of(script, number)),
+        Move::At(_, _) => 0,
+        Move::Write(_, _) => left.saturating_sub(1),
+        _ => left,
+    }
+}
+
 /// Writes transcripts. The row of a move is written when the next move comes, since its class and
 /// what becomes of its frame are known then, and pages that come to be one behind another have one
 /// row.
@@ -196,6 +210,8 @@ pub struct TranscriptTeller<'a> {
     facts: Facts,
     reason: Option<Reason>,
     ages: Ages,
+    /// How many write-outs the line may begin yet: a `writer`, where a script is named.
+    left: u32,
 }
 
 impl<'a> TranscriptTeller<'a> {
@@ -217,6 +233,7 @@ impl<'a> TranscriptTeller<'a> {
             facts: no_facts(),
             reason: None,
             ages: Ages::new(alloc),
+            left: 0,
         }
     }
 }
@@ -241,6 +258,8 @@ impl<'a> Teller for TranscriptTeller<'a> {
             life,
             text,
         )?;
+        put_unwritten_before(self.left, life, m, text)?;
+        self.left = writes_left(self.script, self.left, m);
         self.first = first_behind(before, Some(m), self.first);
         self.facts = facts_of(life, m);
         self.reason = reason_then(self.script, self.answers, &self.ages, life, m);
@@ -260,6 +279,7 @@ impl<'a> Teller for TranscriptTeller<'a> {
             life,
             text,
         )?;
+        put_unwritten_end(whole, self.left, life, text)?;
         put_ending(self.script, self.answers, whole, life.line(), text)?;
         Ok(())
     }
