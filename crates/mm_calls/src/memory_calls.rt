@@ -10,10 +10,10 @@ ghost use Rattle.mm_calls.specs.{LacksMemory, LosesPages, CommitsRange};
 
 use crate::parameters::{
     are_alloc_parameters, are_free_parameters, are_protect_parameters, is_reserving,
-    is_watched_type, new_pages, plain_type,
+    is_watched_type, plain_type,
 };
 use mm_address_spaces::{AddressSpace, PageRange, ProtectInfo};
-use mm_object_tables::Tables;
+use mm_object_tables::{Tables, new_pages};
 use mm_store::PageStore;
 use mm_types::{AllocFlags, Answer, Code, Kind, NoMemory, PAGE_SIZE, Pid, Prot, View};
 use std::alloc::Global;

@@ -3,9 +3,7 @@ ghost use Rattle.mm_types.specs.{is_granule_address, is_user_page};
 ghost use Rattle.mm_world.specs.{are_alloc_parameters, is_reserving, is_watched_type, plain_type, are_free_parameters, are_protect_parameters};
 ghost use Rattle.mm_world.specs.{is_protection_among, private_protections, all_protections, are_section_flags, section_prot, is_reserve};
 ghost use Rattle.mm_world.specs.{largest_section, view_access, may_view};
-ghost use Rattle.mm_object_tables.specs.{new_pages};
 
-use mm_address_spaces::PageRange;
 use mm_types::{AllocFlags, END_OF_USER_PAGES, FIRST_USER_PAGE, GRANULE_SIZE, Prot, ViewAccess};
 
 /// MEM_WRITE_WATCH and MEM_RESERVE.
@@ -98,17 +96,6 @@ pub(crate) fn is_user_page(page: u32) -> bool
     ensures { result ≡ is_user_page page }
 {
     FIRST_USER_PAGE <= page && page < END_OF_USER_PAGES
-}
-
-/// How many pages of a new region are committed.
-pub(crate) fn new_pages(kind: u32, range: PageRange) -> u32
-    ensures { result ≡ new_pages kind range }
-{
-    if kind == AllocFlags::RESERVE.0 {
-        0
-    } else {
-        range.count
-    }
 }
 
 /// Whether the flags are a section's protection, alone, with SEC_COMMIT or with SEC_RESERVE.

@@ -16,6 +16,7 @@ mod waiting;
 mod watching;
 
 pub use looks::{CommittedRow, HandleSection};
+pub use private_pages::new_pages;
 pub use tables::Tables;
 pub use thread_stacks::ThreadStack;
 pub use waiting::Kept;

@@ -21,7 +21,7 @@ use std::alloc::Global;
 const RESERVE_TYPE: u32 = 0x2000;
 
 /// How many pages of a new region are committed.
-fn new_pages(kind: u32, range: PageRange) -> u32
+pub fn new_pages(kind: u32, range: PageRange) -> u32
     ensures { result ≡ new_pages kind range }
 {
     if kind == RESERVE_TYPE { 0 } else { range.count }
