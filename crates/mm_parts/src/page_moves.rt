@@ -149,7 +149,8 @@ impl Parts {
     pub fn add_zero(&mut self, key: Key)
         requires legal { IsLegal (move.Add key None) (shown_parts self.old).life }
         requires home { HasHome (shown_parts self.old).bound (shown_parts self.old).areas key }
-        requires clear { IsClear (shown_parts self.old).life.kind (shown_parts self.old).names (shown_parts self.old).aside key }
+        requires clear { IsClear (shown_parts self.old).life.kind (shown_parts self.old).names
+            (shown_parts self.old).aside key }
         ensures made { shown_parts self.new ≡
             record (parts_after (shown_parts self.old) (move.Add key None)) {
               aside =
@@ -200,7 +201,8 @@ impl Parts {
             (parts_after (shown_parts self.old) (move.Map f place)) {
               ages = changed same_place (shown_parts self.old).ages place 0;
               aside = left_by (shown_parts self.old).aside place;
-              names = names_after_map (shown_parts self.old).life.frames (shown_parts self.old).names f place;
+              names = names_after_map (shown_parts self.old).life.frames
+                  (shown_parts self.old).names f place;
             } }
     {
         self.words.words_hold();

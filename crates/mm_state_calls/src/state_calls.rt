@@ -170,7 +170,8 @@ pub trait StateCalls {
     fn add_zero(&mut self, key: Key)
         requires legal { IsLegal (move.Add key None) (shown self.old).life }
         requires home { HasHome (shown self.old).bound (shown self.old).areas key }
-        requires clear { IsClear (shown self.old).life.kind (shown self.old).names (shown self.old).aside key }
+        requires clear { IsClear (shown self.old).life.kind (shown self.old).names
+            (shown self.old).aside key }
         ensures made { Made (move.Add key None) (shown self.old) (shown self.new) }
         ensures rest { shown self.new ≡ record (moved (shown self.old) (shown self.new)) {
           contents = changed same_key (shown self.old).contents key (Some zero_page);
