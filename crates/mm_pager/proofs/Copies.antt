@@ -7,7 +7,7 @@ use Rattle.mm_move_rules.specs.{is_shared, fits_place, record_at, FrameLife, cha
 use Rattle.mm_move_rules.specs.{is_empty, is_first, is_live, is_read, is_touch, is_zero, IsLegal, touches, ResidentSet, with_record, unshared, shared}
 use Rattle.mm_move_rules.specs.{is_dead, set_of, is_below_max, after_unmap_at}
 use Rattle.mm_store.specs.{Aim, is_framed, ByCopy, touch}
-use Rattle.mm_state_calls.specs.{StateOf, Searched, moved_with_call, StateHolds, Made, moved, names_after_give, MayMap, names_after_map}
+use Rattle.mm_state_calls.specs.{StateOf, Searched, moved_with_call, StateHolds, Made, moved}
 use Rattle.mm_pager.specs.{AccessBegins, Faulted, Went, Reaches, Readied, most_reads, IsFresh, TookFrame, LifeKept, HeldAt, KeyAdded, Pins, Copied}
 use Rattle.mm_pager.specs.{MayCopy, MayCopyHeld, CopyGiven, CopyPut, Readies, Zeroed, InQuietFrame}
 use Rattle.mm_pager.proofs.AccessMoves.{went_nothing, flight_same, went_then, sought_then, added_then, added_behind, piece_of, kept_made, kept_then, moved_on, went_one, settled_record, look_set}
@@ -19,7 +19,7 @@ use Rattle.mm_pager.proofs.Taking.{changed_twice, Ready, first_there, readied_re
 use Rattle.mm_pager.proofs.FaultSteps.{search_left, sought_pinned, gives}
 use Rattle.mm_types.specs.declared.moves.Move.TheVariants as move
 use Rattle.mm_state_calls.proofs.{does_two}
-use Rattle.mm_parts.specs.{front, HasSet, left_by}
+use Rattle.mm_parts.specs.{front, HasSet, left_by, MayMap, names_after_give, names_after_map}
 use Rattle.mm_frame_laws.proofs.{sized}
 use Rattle.mm_pager.proofs.LettingGo.{gone_then}
 
@@ -220,7 +220,7 @@ copy_life k f s x y z h r m g =
     added_behind k s.life x.life z.life (readied_ready s x h r).life (added_then k x.life y.life z.life a (kept_made (move.Give f k) y z g tt))
 
 pub copy_given : (place : Place) (f : Frame) (s x y z : StateOf) (beside : Option Place) → StateHolds s → StateHolds z → Readies s x → Made (move.Add (key_of_place place) None) x y → y ≡ record (moved x y) { contents = changed same_key x.contents (key_of_place place) (Some zero_page); aside = beside } → y.aside ≡ Some place
-    → f ≡ front y.life.frames.zeroed → Made (move.Give f (key_of_place place)) y z → z ≡ record (moved y z) { names = names_after_give y (key_of_place place) } → is_read (record_at z.life.frames f.0).request ≡ false → CopyGiven place f s z
+    → f ≡ front y.life.frames.zeroed → Made (move.Give f (key_of_place place)) y z → z ≡ record (moved y z) { names = names_after_give y.aside y.names (key_of_place place) } → is_read (record_at z.life.frames f.0).request ≡ false → CopyGiven place f s z
 copy_given place f s x y z beside h hz r m e aside first g w quiet =
     let k = key_of_place place in
     let ready = readied_ready s x h r in
@@ -305,7 +305,7 @@ map_copy place f s y h g i bound shows touch m =
     (ap (touches place.pid.0) (kept_made (move.Unmap place) s y m tt).kind ∙ touch)
     (below_copied place s y (h.sets place.pid.0 (h.open_process place bound)) shows m)
 
-pub own_may_map : (place : Place) (f : Frame) (y : StateOf) → StateHolds y → InQuietFrame (key_of_place place) f y → MayMap y f place
+pub own_may_map : (place : Place) (f : Frame) (y : StateOf) → StateHolds y → InQuietFrame (key_of_place place) f y → MayMap y.life f place
 own_may_map place f y g i = λ e. let bad : false ≡ true = sym (own_test is_shared (record_at y.life.frames f.0) (key_of_place place) (g.owner (key_of_place place) f i.stands)) ∙ e in cc
 
 -- ---- the piece
@@ -335,7 +335,7 @@ left_here : (o : Option Place) (place : Place) → o ≡ Some place → left_by 
 left_here o place e = ap (λ (q : Option Place). left_by q place) e ∙ ap (λ (b : Bool). if b then None else Some place) (same_place-self place)
 
 pub copy_put : (place : Place) (f : Frame) (s y z : StateOf) → StateHolds y → shows_shared s.life place ≡ true → InQuietFrame (key_of_place place) f s → InQuietFrame (key_of_place place) f y → s.aside ≡ Some place → Made (move.Unmap place) s y → y ≡ moved s y → Made (move.Map f place) y z
-    → z ≡ record (moved y z) { names = names_after_map y f place; aside = left_by y.aside place } → CopyPut place f s z
+    → z ≡ record (moved y z) { names = names_after_map y.life.frames y.names f place; aside = left_by y.aside place } → CopyPut place f s z
 copy_put place f s y z h shows i j a u r m e =
     let none : left_by y.aside place ≡ None = left_here y.aside place (ap (λ (x : StateOf). x.aside) r ∙ a) in
     let names = ap (λ (x : StateOf). x.names) e in
@@ -350,5 +350,5 @@ copy_put place f s y z h shows i j a u r m e =
       names = names ∙ ap (λ (o : Option Key). changed same_place y.names place o) (h.owner (key_of_place place) f j.stands) ∙ ap (λ (x : StateOf). changed same_place x.names place (Some (key_of_place place))) r;
       aside = ap (λ (x : StateOf). x.aside) e ∙ none;
       told = m.told ∙ u.told;
-      same = moved_on s z z.names None (e ∙ ap (λ (x : StateOf). record (moved x z) { names = names_after_map y f place; aside = left_by y.aside place }) r ∙ (λ k. record (moved s z) { names = sym names k; aside = none k }));
+      same = moved_on s z z.names None (e ∙ ap (λ (x : StateOf). record (moved x z) { names = names_after_map y.life.frames y.names f place; aside = left_by y.aside place }) r ∙ (λ k. record (moved s z) { names = sym names k; aside = none k }));
     }

@@ -10,7 +10,7 @@ use Rattle.mm_types.specs.declared.moves.Move.TheVariants as move
 use Rattle.mm_types.specs.declared.moves.Stored.TheVariants as stored
 use Rattle.mm_world.specs.{Need, Tally}
 use Rattle.mm_store.specs.{Aim, AccessMove, ReadFails, InShortage, is_framed, is_shortage, no_calls}
-use Rattle.mm_state_calls.specs.{StateOf, Searched, walk_of, IsFlightOf, Made, moved, moved_with_call, names_after_give, StateHolds}
+use Rattle.mm_state_calls.specs.{StateOf, Searched, walk_of, IsFlightOf, Made, moved, moved_with_call, StateHolds}
 use Rattle.mm_pager.specs.{Anywhere, HasTried, Sought, Stuck, AccessBegins, Causes, KeepsButNames, Fails, LifeKept, Pins, TookFrame, IsFresh, IsFor}
 use Rattle.mm_pager.specs.{ReadsFor, InQuietFrame, GivesFrame, FindsNone, Frees, Brings, FailsToBring, Faulted, PutsAtPlace, Went}
 use Rattle.mm_pager.proofs.AccessMoves.{piece_of, flight_same, called_on, kept_same, kept_then, kept_unmap, kept_within, piece_as, sought_then, went_nothing, went_then, keeps_then, keeps_called, moved_on, flight_on, flight_then, got_flight, read_flight, search_flight}
@@ -19,7 +19,7 @@ use Rattle.mm_move_laws.proofs.{same_place-true, changed_here}
 use Rattle.mm_pager.proofs.Taking.{unmapped_stands, Ready, freed_ready, went_read, stuck_read, read_called, read_fails, bad_read, bad_fault, got_calm, reads_for, fault_later, given_names, given_beside, given_soiled}
 use Rattle.mm_types.specs.declared.frames.Held.TheVariants as held
 use Rattle.mm_store.specs.Told.{Told}
-use Rattle.mm_parts.specs.{front_for_read, own_after, own_ended}
+use Rattle.mm_parts.specs.{front_for_read, own_after, own_ended, names_after_give}
 use Rattle.mm_state_calls.proofs.{does_one}
 use Rattle.mm_reclaim.proofs.{called_then, fault_from}
 
@@ -203,14 +203,14 @@ found_access s t p e = ap is_access (search_left None true s t p).life.kind ∙ 
 
 -- ---- a frame is given
 
-given_moved : (k : Key) (s y z : StateOf) → y ≡ moved s y → z ≡ record (moved y z) { names = names_after_give y k } → z ≡ record (moved s z) { names = z.names }
+given_moved : (k : Key) (s y z : StateOf) → y ≡ moved s y → z ≡ record (moved y z) { names = names_after_give y.aside y.names k } → z ≡ record (moved s z) { names = z.names }
 given_moved k s y z r e =
     e
-    ∙ ap (λ (x : StateOf). record (moved x z) { names = names_after_give y k }) r
+    ∙ ap (λ (x : StateOf). record (moved x z) { names = names_after_give y.aside y.names k }) r
     ∙ ap (λ (n : Place → Option Key). record (moved s z) { names = n }) (sym (ap (λ (x : StateOf). x.names) e))
 
 -- a demand-zero page got a frame that was made ready
-pub gives : (k : Key) (f : Frame) (s y z : StateOf) → Ready s y → Made (move.Give f k) y z → z ≡ record (moved y z) { names = names_after_give y k }
+pub gives : (k : Key) (f : Frame) (s y z : StateOf) → Ready s y → Made (move.Give f k) y z → z ≡ record (moved y z) { names = names_after_give y.aside y.names k }
     → is_read (record_at z.life.frames f.0).request ≡ false → ((a : Aim) → IsFor a k → TookFrame a 0 s z) → GivesFrame k f s z
 gives k f s y z r m e quiet went =
     let w = given_moved k s y z r.rest e in

@@ -25,7 +25,7 @@ use Rattle.mm_store.specs.{block_at, backed_by, StoreOf, changed_in, unnamed}
 use Rattle.mm_store.specs.Housekeeping.{Ends}
 use Rattle.mm_store.specs.Leaving.{Leaving}
 use Rattle.mm_store.proofs.{ends_then, ends_wider}
-use Rattle.mm_state_calls.specs.{StateOf, Made, moved, names_after_drop, StateHolds}
+use Rattle.mm_state_calls.specs.{StateOf, Made, moved, StateHolds}
 use Rattle.mm_state_calls.proofs.{does_one, does_two}
 use Rattle.mm_pager.specs.{LifeBut, LifeKept, Thins, LetsGo, LetGo, Still, Gone, OwnLetGo, MayLetGo, MayLetOwnGo, NextGone, OwnOf, store_of}
 use Rattle.mm_pager.specs.{report_of, behind_of}
@@ -33,6 +33,7 @@ use Rattle.mm_pager.proofs.Shows.{turns_still, passes_of, changed_keys}
 use Rattle.mm_pager.proofs.AccessMoves.{kept_same, kept_then, blocks_kept, block_same, paging_has_none, dead_has_none, fetched_by, with_told, kept_made}
 use Rattle.mm_pager.proofs.Taking.{unmapped_stands, unmapped_still}
 use Rattle.mm_reclaim.proofs.{moved_then}
+use Rattle.mm_parts.specs.{names_after_drop}
 
 -- ---- one place
 
@@ -267,7 +268,7 @@ drops_by k s z m = subst (λ (l : FrameLife). Drops k s.life l) (sym m.life) (dr
 
 -- what the state is then
 abbrev pub IsDropped : Key → StateOf → StateOf → Type 0
-IsDropped k s z = z ≡ record (moved s z) { contents = changed same_key s.contents k None; names = names_after_drop s k }
+IsDropped k s z = z ≡ record (moved s z) { contents = changed same_key s.contents k None; names = names_after_drop s.names k }
 
 drop_blocks : (k : Key) (s z : StateOf) → StateHolds s → StateHolds z → Made (move.Drop k) s z → s.life.paging k ≡ true → IsDropped k s z → (q : Key) → block_at (backed_by z.life (z.life.stands q)) ≡ block_at (backed_by s.life (s.life.stands q))
 drop_blocks k s z h g m p e q = elim (key_or_not q k) [
@@ -278,7 +279,7 @@ drop_blocks k s z h g m p e q = elim (key_or_not q k) [
       (ap (λ (f : Key → Option (List ℕ)). is_some (f q)) (ap (λ (x : StateOf). x.contents) e) ∙ ap is_some (changed_else s.contents k q None a.0))
 ]
 
-dropped_names : (k : Key) (s : StateOf) → names_after_drop s k ≡ unnamed k s.names
+dropped_names : (k : Key) (s : StateOf) → names_after_drop s.names k ≡ unnamed k s.names
 dropped_names (Private pid vpn) s = refl
 dropped_names (Shared area index) s = refl
 
@@ -301,7 +302,7 @@ dropped_store : (k : Key) (s z : StateOf) (o : OwnOf) → StateHolds s → State
     → store_of z o ≡ record (store_of s o) { names = unnamed k s.names; paging = changed same_in_world s.life.paging k false; paging_keys = s.life.paging_keys - 1; report = rearranged (report_of s o) (report_of z o) }
 dropped_store k s z o h g m p e =
     ap (λ (x : StateOf). store_of x o) e
-    ∙ dropped_shape k s z o (names_after_drop s k) (drops_by k s z m) (drop_blocks k s z h g m p e) m.told m.waits
+    ∙ dropped_shape k s z o (names_after_drop s.names k) (drops_by k s z m) (drop_blocks k s z h g m p e) m.told m.waits
     ∙ ap (λ (n : Place → Option Key). record (store_of s o) { names = n; paging = changed same_in_world s.life.paging k false; paging_keys = s.life.paging_keys - 1; report = rearranged (report_of s o) (report_of z o) }) (dropped_names k s)
 
 -- the store once the key's own place was let go and the key dropped

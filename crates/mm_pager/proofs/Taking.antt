@@ -17,9 +17,9 @@ use Rattle.mm_move_laws.proofs.{changed_else, changed_here, same_place-true, sam
 use Rattle.mm_devices.proofs.{all_served_later, failed_later}
 use Rattle.mm_store.specs.{Aim, IsGivenNext, IsUsedNext, is_had, with_read, FromFull}
 use Rattle.mm_store.specs.Told.{Told}
-use Rattle.mm_state_calls.specs.{StateOf, Made, DoesMoves, SomeFault, moved_with_call, moved, StateHolds, names_after_give, MayMap, names_after_map}
+use Rattle.mm_state_calls.specs.{StateOf, Made, DoesMoves, SomeFault, moved_with_call, moved, StateHolds}
 use Rattle.mm_state_calls.proofs.{does_one, does_two}
-use Rattle.mm_parts.specs.{own_after, own_ended, front, front_for_read, is_own_line, names_given, HasSet, left_by}
+use Rattle.mm_parts.specs.{own_after, own_ended, front, front_for_read, is_own_line, names_given, HasSet, left_by, MayMap, names_after_give, names_after_map}
 use Rattle.mm_pager.specs.{Calm, TakesFrame, TookFrame, HasTried, IsFresh, IsFor, ReadsFor, Fails, Frees, Free, Stolen, Readies, Zeroed, Cleared}
 use Rattle.mm_pager.specs.{LifeKept, NamesFor, Went, InQuietFrame, Placed}
 use Rattle.mm_pager.proofs.AccessMoves.{piece_of, move_front, kept_made, kept_same, kept_then, set_there, went_one, moved_on}
@@ -282,7 +282,7 @@ given_at (Some q) n p place v e = at (same_place p q)
     at true = refl
     at false = named_at n p place v e
 
-pub given_names : (k : Key) (s y z : StateOf) → y.names ≡ s.names → z.names ≡ names_after_give y k → NamesFor k s z
+pub given_names : (k : Key) (s y z : StateOf) → y.names ≡ s.names → z.names ≡ names_after_give y.aside y.names k → NamesFor k s z
 given_names (Private p w) s y z n e = λ place v h.
     ap (λ (f : Place → Option Key). changed same_place f place v) e
     ∙ given_at y.aside y.names (record { pid = p; vpn = w }) place v (same_place-true (record { pid = p; vpn = w }) place h)
@@ -290,9 +290,9 @@ given_names (Private p w) s y z n e = λ place v h.
 given_names (Shared a i) s y z n e = λ place v h. ap (λ (f : Place → Option Key). changed same_place f place v) (e ∙ n)
 
 -- its place names what it named, where it stands beside the tables
-pub given_beside : (k : Key) (s y z : StateOf) → y.names ≡ s.names → y.aside ≡ s.aside → z.names ≡ names_after_give y k → (place : Place) → s.aside ≡ Some place → k ≡ key_of_place place → z.names ≡ s.names
+pub given_beside : (k : Key) (s y z : StateOf) → y.names ≡ s.names → y.aside ≡ s.aside → z.names ≡ names_after_give y.aside y.names k → (place : Place) → s.aside ≡ Some place → k ≡ key_of_place place → z.names ≡ s.names
 given_beside k s y z n o e place a q =
-    e ∙ ap (names_after_give y) q ∙ ap (λ (x : Option Place). names_given x y.names place) (o ∙ a)
+    e ∙ ap (names_after_give y.aside y.names) q ∙ ap (λ (x : Option Place). names_given x y.names place) (o ∙ a)
     ∙ ap (λ (b : Bool). if b then y.names else changed same_place y.names place (Some (key_of_place place))) (same_place-self place) ∙ n
 
 -- its frame can be written
@@ -318,7 +318,7 @@ map_legal k f place s h i fits free touch below =
 pub dead_of : (k : Key) (s : StateOf) → StateHolds s → s.contents k ≡ None → is_dead (s.life.stands k) ≡ true
 dead_of k s h e = not_false (is_dead (s.life.stands k)) (h.live k ∙ ap is_some e)
 
-pub may_map : (k : Key) (f : Frame) (place : Place) (s : StateOf) → StateHolds s → InQuietFrame k f s → (is_shared k ≡ true → s.contents (key_of_place place) ≡ None) → MayMap s f place
+pub may_map : (k : Key) (f : Frame) (place : Place) (s : StateOf) → StateHolds s → InQuietFrame k f s → (is_shared k ≡ true → s.contents (key_of_place place) ≡ None) → MayMap s.life f place
 may_map k f place s h i alone = λ e. dead_of (key_of_place place) s h (alone (sym (own_test is_shared (record_at s.life.frames f.0) k (h.owner k f i.stands)) ∙ e))
 
 placed_same : (s z : StateOf) (place : Place) (n : Place → Option Key) → s.aside ≡ None → z ≡ record (moved s z) { names = n; aside = left_by s.aside place } → z ≡ record (moved_with_call s z) { names = z.names }
@@ -326,14 +326,14 @@ placed_same s z place n a e =
     moved_on s z n s.aside (e ∙ ap (λ (x : Option Place). record (moved s z) { names = n; aside = x }) (ap (λ (x : Option Place). left_by x place) a ∙ sym a))
     ∙ ap (λ (x : Place → Option Key). record (moved_with_call s z) { names = x }) (sym (ap (λ (x : StateOf). x.names) e))
 
-pub placed_by : (k : Key) (f : Frame) (place : Place) (s z : StateOf) → StateHolds s → InQuietFrame k f s → s.aside ≡ None → Made (move.Map f place) s z → z ≡ record (moved s z) { names = names_after_map s f place; aside = left_by s.aside place }
+pub placed_by : (k : Key) (f : Frame) (place : Place) (s z : StateOf) → StateHolds s → InQuietFrame k f s → s.aside ≡ None → Made (move.Map f place) s z → z ≡ record (moved s z) { names = names_after_map s.life.frames s.names f place; aside = left_by s.aside place }
     → is_read (record_at z.life.frames f.0).request ≡ false → Placed k f place s z
 placed_by k f place s z h i a m e quiet = record {
   valid = ap (λ (l : FrameLife). l.valid place) m.life ∙ ap (λ (b : Bool). if b then Some f else s.life.valid place) (same_place-self place);
   names = ap (λ (x : StateOf). x.names) e ∙ ap (λ (o : Option Key). changed same_place s.names place o) (h.owner k f i.stands);
   kind = ap (λ (l : FrameLife). l.kind) m.life;
   frame = record { stands = ap (λ (l : FrameLife). l.stands k) m.life ∙ i.stands; quiet = quiet };
-  same = placed_same s z place (names_after_map s f place) a e;
+  same = placed_same s z place (names_after_map s.life.frames s.names f place) a e;
 }
 
 -- so it is after another page was unmapped

@@ -217,12 +217,12 @@ comes_in t kept d' f r k change none bare calm = record {
 
 -- ---- give
 
-names_give : (t : JoinedParts) (k : Key) (f : Frame) (q : Place) → names_of (owners t.table) (with_entry t.words k (entry.Transition f)) q ≡ names_after_give (shown_of t) k q
+names_give : (t : JoinedParts) (k : Key) (f : Frame) (q : Place) → names_of (owners t.table) (with_entry t.words k (entry.Transition f)) q ≡ names_after_give (shown_of t).aside (shown_of t).names k q
 names_give t (Private p v) f q = names_used (owners t.table) t.words p v (entry.Transition f) refl q
 names_give t (Shared a i) f q = refl
 
 pub give_step : (t : JoinedParts) → PartsKept t → (f : Frame) (k : Key) → IsLegal (move.Give f k) (life_in t)
-    → Step (record t { table = after_give t.table f.0 k; words = with_entry t.words k (entry.Transition f) }) (record (parts_after (shown_of t) (move.Give f k)) { names = names_after_give (shown_of t) k })
+    → Step (record t { table = after_give t.table f.0 k; words = with_entry t.words k (entry.Transition f) }) (record (parts_after (shown_of t) (move.Give f k)) { names = names_after_give (shown_of t).aside (shown_of t).names k })
 give_step t kept f k legal =
     let facts = known t kept in
     let d = t.table in
@@ -232,7 +232,7 @@ give_step t kept f k legal =
     let c = changes_give d (requests_in t) f.0 facts.standing k parts.0 in
     let change : Rewrites d (after_give d f.0 k) f.0 (given k) = record { elsewhere = λ g m. ap (λ (s : Sight). s.what) (c.elsewhere g m); here = c.here } in
     let re = comes_in t kept (after_give d f.0 k) f (given k) k change refl bare (ap is_valid_entry word) in
-    key_step t kept (after_give d f.0 k) f (given k) k (entry.Transition f) re (move.Give f k) legal t.line t.bytes t.free t.flight t.own (names_after_give (shown_of t) k)
+    key_step t kept (after_give d f.0 k) f (given k) k (entry.Transition f) re (move.Give f k) legal t.line t.bytes t.free t.flight t.own (names_after_give (shown_of t).aside (shown_of t).names k)
     (key_life t kept (after_give d f.0 k) f (given k) k (entry.Transition f) re t.free (requests_in t)
     (ap (λ (x : Record). not (has_block x.backing)) c.here ∙ sym (ap (λ e. is_paging d (held_by (owned_by (owners d) k) e)) word)))
     (names_give t k f)

@@ -85,10 +85,10 @@ module _ (t : JoinedParts) (kept : PartsKept t) (k : Key) (legal : IsLegal (move
       by (Private p v) h = let bad : true ≡ false = sym h ∙ not_beside t.words.aside (place_from p v) none_aside in cc
       by (Shared a i) h = cc
 
-  gone_names : (q : Place) → names_of (owners t.table) (with_entry t.words k entry.Empty) q ≡ names_after_drop (shown_of t) k q
+  gone_names : (q : Place) → names_of (owners t.table) (with_entry t.words k entry.Empty) q ≡ names_after_drop (shown_of t).names k q
   gone_names = by k
     where
-      by : (j : Key) (q : Place) → names_of (owners t.table) (with_entry t.words j entry.Empty) q ≡ names_after_drop (shown_of t) j q
+      by : (j : Key) (q : Place) → names_of (owners t.table) (with_entry t.words j entry.Empty) q ≡ names_after_drop (shown_of t).names j q
       by (Private p v) q = names_gone (owners t.table) t.words p v entry.Empty (not_beside t.words.aside (place_from p v) none_aside) refl q
       by (Shared a i) q = refl
 
@@ -96,10 +96,10 @@ module _ (t : JoinedParts) (kept : PartsKept t) (k : Key) (legal : IsLegal (move
       → record (unlisted (life_in t) k) { frames = d'; free_slots = free' } ≡ after_move (life_in t) (move.Drop k)
       → (is_read (record_at t.table f.0).request ≡ true → is_read r.request ≡ true)
       → Step (record t { line = record t.line { paging_keys = t.line.paging_keys - 1 }; table = d'; free = free'; words = with_entry t.words k entry.Empty })
-      (record (parts_after (shown_of t) (move.Drop k)) { names = names_after_drop (shown_of t) k })
+      (record (parts_after (shown_of t) (move.Drop k)) { names = names_after_drop (shown_of t).names k })
   drop_by d' f r free' re moves goes_on =
       let n' : LineOf = record t.line { paging_keys = t.line.paging_keys - 1 } in
-      key_step t kept d' f r k entry.Empty re (move.Drop k) legal n' t.bytes free' t.flight t.own (names_after_drop (shown_of t) k)
+      key_step t kept d' f r k entry.Empty re (move.Drop k) legal n' t.bytes free' t.flight t.own (names_after_drop (shown_of t).names k)
       (same_life n' d' free' (requests_in t) _ _ _ _ _ _ _ _ (λ b. slice_index_or t.line.added b false)
       (sets_set t.words k entry.Empty) (key_stands t kept d' f r k entry.Empty re) (key_paging t kept d' f r k entry.Empty re) (key_valid t kept d' f r k entry.Empty re)
       ∙ moves)
@@ -110,7 +110,7 @@ module _ (t : JoinedParts) (kept : PartsKept t) (k : Key) (legal : IsLegal (move
   drop_bare : (h : Held) (free' : List Bool) → is_valid_entry (key_entry t.words k) ≡ false → (life_in t).stands k ≡ h
       → record (unlisted (life_in t) k) { frames = t.table; free_slots = free' } ≡ dropped_at h (life_in t) k
       → Step (record t { line = record t.line { paging_keys = t.line.paging_keys - 1 }; table = t.table; free = free'; words = with_entry t.words k entry.Empty })
-      (record (parts_after (shown_of t) (move.Drop k)) { names = names_after_drop (shown_of t) k })
+      (record (parts_after (shown_of t) (move.Drop k)) { names = names_after_drop (shown_of t).names k })
   drop_bare h free' calm stands moves =
       drop_by t.table (beyond t.table) blank free' (word_only t kept k entry.Empty (rests k entry.Empty refl refl refl) none_beside (λ g e. cc) calm)
       (moves ∙ ap (λ x. dropped_at x (life_in t) k) (sym stands))
@@ -138,7 +138,7 @@ module _ (t : JoinedParts) (kept : PartsKept t) (k : Key) (legal : IsLegal (move
 
   pub drop_step : (e : Entry) → key_entry t.words k ≡ e
       → Step (record t { line = record t.line { paging_keys = t.line.paging_keys - 1 }; table = table_released e t.table; free = freed t.free (slot_released e t.table); words = with_entry t.words k entry.Empty })
-      (record (parts_after (shown_of t) (move.Drop k)) { names = names_after_drop (shown_of t) k })
+      (record (parts_after (shown_of t) (move.Drop k)) { names = names_after_drop (shown_of t).names k })
   drop_step entry.Empty word = absurd (not_dead (standing entry.Empty word))
   drop_step entry.Zero word = drop_bare held.Zero t.free (ap is_valid_entry word) (standing entry.Zero word) refl
   drop_step (entry.Paged s) word = drop_bare (held.Slot s) (freed t.free (Some s.0)) (ap is_valid_entry word) (standing (entry.Paged s) word) refl
@@ -180,7 +180,7 @@ released_bare _ d = (refl, refl)
 -- the entry as it is told, with its number
 pub drop_told_step : (t : JoinedParts) (kept : PartsKept t) (k : Key) (legal : IsLegal (move.Drop k) (life_in t)) (e : Entry) → bare e ≡ key_entry t.words k
     → Step (record t { line = record t.line { paging_keys = t.line.paging_keys - 1 }; table = table_released e t.table; free = freed t.free (slot_released e t.table); words = with_entry t.words k entry.Empty })
-    (record (parts_after (shown_of t) (move.Drop k)) { names = names_after_drop (shown_of t) k })
+    (record (parts_after (shown_of t) (move.Drop k)) { names = names_after_drop (shown_of t).names k })
 drop_told_step t kept k legal e is =
     step_to _ _ _ (λ i. record t { line = record t.line { paging_keys = t.line.paging_keys - 1 }; table = sym (released_bare e t.table).0 i; free = freed t.free (sym (released_bare e t.table).1 i); words = with_entry t.words k entry.Empty })
     (drop_step t kept k legal (bare e) (sym is))
@@ -281,12 +281,12 @@ can_add t k legal =
 abbrev pub NamesNone : JoinedParts → Key → Type 0
 NamesNone t k = (p : Pid) (v : Vpn) → k ≡ Private p v → names_of (owners t.table) t.words (place_from p v) ≡ None
 
-aside_none : (t : JoinedParts) (k : Key) → NamesNone t k → aside_after_add (shown_of t) k ≡ (shown_of t).aside
+aside_none : (t : JoinedParts) (k : Key) → NamesNone t k → aside_after_add (shown_of t).names (shown_of t).aside k ≡ (shown_of t).aside
 aside_none t (Private p v) none = ap (λ n. aside_added n (shown_of t).aside (place_from p v)) (none p v refl)
 aside_none t (Shared a i) none = refl
 
 pub add_zero_step : (t : JoinedParts) → PartsKept t → (k : Key) → IsLegal (move.Add k None) (life_in t) → NamesNone t k
-    → Step (record t { line = record t.line { paging_keys = t.line.paging_keys + 1 }; words = with_entry t.words k entry.Zero }) (record (parts_after (shown_of t) (move.Add k None)) { aside = aside_after_add (shown_of t) k })
+    → Step (record t { line = record t.line { paging_keys = t.line.paging_keys + 1 }; words = with_entry t.words k entry.Zero }) (record (parts_after (shown_of t) (move.Add k None)) { aside = aside_after_add (shown_of t).names (shown_of t).aside k })
 add_zero_step t kept k legal none =
     let can = can_add t k legal in
     let word = clear_word t kept k can.dead none in
@@ -389,7 +389,7 @@ module _ (t : JoinedParts) (kept : PartsKept t) (p : Pid) (v : Vpn) (legal : IsL
       (λ q. ap (is_paging t.table) (aside_stands q) ∙ at_if (is_paging t.table) (same_key q (Private p v)) held.Zero (stands_of (owners t.table) t.words q)) (λ x. refl)
 
   pub add_aside_step : Step (record t { line = record t.line { paging_keys = t.line.paging_keys + 1 }; words = with_aside t.words (place_from p v) entry.Zero })
-      (record (parts_after (shown_of t) (move.Add (Private p v) None)) { aside = aside_after_add (shown_of t) (Private p v) })
+      (record (parts_after (shown_of t) (move.Add (Private p v) None)) { aside = aside_after_add (shown_of t).names (shown_of t).aside (Private p v) })
   add_aside_step = record {
     kept = assumption (reached_by (life_in t) _ (move.Add (Private p v) None) legal aside_life kept.reached, aside_words, touch);
     shown = λ i. record (shown_of t) { life = aside_life i; aside = (sym (ap (λ n. aside_added n (shown_of t).aside (place_from p v)) (shown_copied t p v legal touch).1)) i };
@@ -412,30 +412,30 @@ copied t (Private p v) place e Q h = elim (is_touch t.line.kind) as (λ b. is_to
 ] refl e
 copied t (Shared a i) place e Q h = cc
 
-copy_alone : (t : JoinedParts) → PartsKept t → (p : Pid) (v : Vpn) → IsLegal (move.Add (Private p v) None) (life_in t) → is_touch t.line.kind ≡ true → IsClear (shown_of t) (Private p v) → t.words.aside ≡ None
+copy_alone : (t : JoinedParts) → PartsKept t → (p : Pid) (v : Vpn) → IsLegal (move.Add (Private p v) None) (life_in t) → is_touch t.line.kind ≡ true → IsClear (shown_of t).life.kind (shown_of t).names (shown_of t).aside (Private p v) → t.words.aside ≡ None
 copy_alone t kept p v legal touch (inl none) =
     let there = shown_copied t p v legal touch in
     let bad : Some there.0 ≡ None = sym there.1 ∙ none in cc
 copy_alone t kept p v legal touch (inr x) = no_place t.words.aside x.1
 
-pub copy_none_aside : (t : JoinedParts) → PartsKept t → (k : Key) (place : Place) → copy_place k t.line.kind ≡ Some place → IsLegal (move.Add k None) (life_in t) → IsClear (shown_of t) k → t.words.aside ≡ None
-copy_none_aside t kept k place e = copied t k place e (λ q x. IsLegal (move.Add q None) (life_in t) → IsClear (shown_of t) q → t.words.aside ≡ None) (λ p v touch legal clear. copy_alone t kept p v legal touch clear)
+pub copy_none_aside : (t : JoinedParts) → PartsKept t → (k : Key) (place : Place) → copy_place k t.line.kind ≡ Some place → IsLegal (move.Add k None) (life_in t) → IsClear (shown_of t).life.kind (shown_of t).names (shown_of t).aside k → t.words.aside ≡ None
+copy_none_aside t kept k place e = copied t k place e (λ q x. IsLegal (move.Add q None) (life_in t) → IsClear (shown_of t).life.kind (shown_of t).names (shown_of t).aside q → t.words.aside ≡ None) (λ p v touch legal clear. copy_alone t kept p v legal touch clear)
 
-pub copy_step : (t : JoinedParts) → PartsKept t → (k : Key) (place : Place) → copy_place k t.line.kind ≡ Some place → IsLegal (move.Add k None) (life_in t) → HasHome (shown_of t) k → IsClear (shown_of t) k
-    → Step (record t { line = record t.line { paging_keys = t.line.paging_keys + 1 }; words = with_aside t.words place entry.Zero }) (record (parts_after (shown_of t) (move.Add k None)) { aside = aside_after_add (shown_of t) k })
+pub copy_step : (t : JoinedParts) → PartsKept t → (k : Key) (place : Place) → copy_place k t.line.kind ≡ Some place → IsLegal (move.Add k None) (life_in t) → HasHome (shown_of t).bound (shown_of t).areas k → IsClear (shown_of t).life.kind (shown_of t).names (shown_of t).aside k
+    → Step (record t { line = record t.line { paging_keys = t.line.paging_keys + 1 }; words = with_aside t.words place entry.Zero }) (record (parts_after (shown_of t) (move.Add k None)) { aside = aside_after_add (shown_of t).names (shown_of t).aside k })
 copy_step t kept k place e = copied t k place e
-    (λ q x. IsLegal (move.Add q None) (life_in t) → HasHome (shown_of t) q → IsClear (shown_of t) q
-    → Step (record t { line = record t.line { paging_keys = t.line.paging_keys + 1 }; words = with_aside t.words x entry.Zero }) (record (parts_after (shown_of t) (move.Add q None)) { aside = aside_after_add (shown_of t) q }))
+    (λ q x. IsLegal (move.Add q None) (life_in t) → HasHome (shown_of t).bound (shown_of t).areas q → IsClear (shown_of t).life.kind (shown_of t).names (shown_of t).aside q
+    → Step (record t { line = record t.line { paging_keys = t.line.paging_keys + 1 }; words = with_aside t.words x entry.Zero }) (record (parts_after (shown_of t) (move.Add q None)) { aside = aside_after_add (shown_of t).names (shown_of t).aside q }))
     (λ p v touch legal home clear. add_aside_step t kept p v legal touch (copy_alone t kept p v legal touch clear) home)
 
-pub copy_bound : (t : JoinedParts) (k : Key) (place : Place) → copy_place k t.line.kind ≡ Some place → HasHome (shown_of t) k → t.words.bound place ≡ true
-copy_bound t k place e = copied t k place e (λ q x. HasHome (shown_of t) q → t.words.bound x ≡ true) (λ p v touch home. home)
+pub copy_bound : (t : JoinedParts) (k : Key) (place : Place) → copy_place k t.line.kind ≡ Some place → HasHome (shown_of t).bound (shown_of t).areas k → t.words.bound place ≡ true
+copy_bound t k place e = copied t k place e (λ q x. HasHome (shown_of t).bound (shown_of t).areas q → t.words.bound x ≡ true) (λ p v touch home. home)
 
 -- a key that does not stand beside the tables comes to be where no page is named
-pub set_names : (t : JoinedParts) (k : Key) → copy_place k t.line.kind ≡ None → IsClear (shown_of t) k → NamesNone t k
+pub set_names : (t : JoinedParts) (k : Key) → copy_place k t.line.kind ≡ None → IsClear (shown_of t).life.kind (shown_of t).names (shown_of t).aside k → NamesNone t k
 set_names t (Private p v) e (inl none) = λ q u same. let p_is : p ≡ q = cc in let v_is : v ≡ u = cc in (λ i. names_of (owners t.table) t.words (place_from (sym p_is i) (sym v_is i))) ∙ none
 set_names t (Private p v) e (inr x) = let bad : Some (place_from p v) ≡ None = sym (ap (λ b. if b then Some (place_from p v) else None) x.0) ∙ e in cc
 set_names t (Shared a i) e clear = λ q u same. cc
 
-pub set_places : (t : JoinedParts) → PartsKept t → (k : Key) → copy_place k t.line.kind ≡ None → IsLegal (move.Add k None) (life_in t) → IsClear (shown_of t) k → keeps_places t.words k entry.Zero ≡ true
+pub set_places : (t : JoinedParts) → PartsKept t → (k : Key) → copy_place k t.line.kind ≡ None → IsLegal (move.Add k None) (life_in t) → IsClear (shown_of t).life.kind (shown_of t).names (shown_of t).aside k → keeps_places t.words k entry.Zero ≡ true
 set_places t kept k e legal clear = places_kept t.words k entry.Zero refl (ap is_valid_entry (clear_word t kept k (can_add t k legal).dead (set_names t k e clear)))

@@ -78,7 +78,7 @@ MapStep t f place w =
     (record (parts_after (shown_of t) (move.Map f place)) {
       ages = changed same_place (shown_of t).ages place 0;
       aside = left_by (shown_of t).aside place;
-      names = names_after_map (shown_of t) f place;
+      names = names_after_map (shown_of t).life.frames (shown_of t).names f place;
     })
 
 -- The place comes to be valid for the frame, and prototype words may. What is needed of the words then: each is as before or valid for
@@ -135,7 +135,7 @@ module _ (t : JoinedParts) (kept : PartsKept t) (f : Frame) (place : Place) (leg
     beside_other = λ x at. elim (same_place x.place place) as (λ b. names_other (cond b (entry.Valid f 0) (t.words.at x.place)) ≡ true) [ true ↦ refl | false ↦ kept.words.beside_other x (beside_made t.words.aside place x at) ];
   }
 
-  map_names : (q : Place) → names_of (owners (after_map t.table f.0)) (record (made_valid t.words place f) { proto = proto' }) q ≡ names_after_map (shown_of t) f place q
+  map_names : (q : Place) → names_of (owners (after_map t.table f.0)) (record (made_valid t.words place f) { proto = proto' }) q ≡ names_after_map (shown_of t).life.frames (shown_of t).names f place q
   map_names q = ap (λ o. named_by o q (changed same_place t.words.at place (entry.Valid f 0) q)) (same_owners t.table (after_map t.table f.0) f.0 (shared (record_at t.table f.0)) t.words map_change refl)
       ∙ names_at (owners t.table) t.words place (entry.Valid f 0) (record_at t.table f.0).owner refl q
 
@@ -488,7 +488,7 @@ module _ (t : JoinedParts) (kept : PartsKept t) (f : Frame) (place : Place) (a :
 
 -- ---- the moves map and unmap, whatever page the frame has
 
-pub map_any_step : (t : JoinedParts) → PartsKept t → (f : Frame) (place : Place) → IsLegal (move.Map f place) (life_in t) → MayMap (shown_of t) f place → (o : Option Key) → (record_at t.table f.0).owner ≡ o
+pub map_any_step : (t : JoinedParts) → PartsKept t → (f : Frame) (place : Place) → IsLegal (move.Map f place) (life_in t) → MayMap (shown_of t).life f place → (o : Option Key) → (record_at t.table f.0).owner ≡ o
     → MapStep t f place (words_named o f (made_valid t.words place f))
 map_any_step t kept f place legal alone None e = let bad : None ≡ Some (mappable t f place legal).key = sym e ∙ (mappable t f place legal).owner in cc
 map_any_step t kept f place legal alone (Some (Private p v)) e = map_own_step t kept f place legal (own_place t f place p v (mappable t f place legal) e)

@@ -232,9 +232,9 @@ told_low t kept k e told f v = by e refl v
 
 -- ---- keys that have a word
 
-pub word_home : (t : JoinedParts) (k : Key) → has_word t.words k ≡ true → HasHome (shown_of t) k
+pub word_home : (t : JoinedParts) (k : Key) → has_word t.words k ≡ true → HasHome (shown_of t).bound (shown_of t).areas k
 word_home t (Private p v) h = h
-word_home t (Shared a i) h = elim (t.words.sizes a.0) as (λ o. t.words.sizes a.0 ≡ o → unwrap_or (option_map (λ n. nat_lt i n) o) false ≡ true → HasHome (shown_of t) (Shared a i)) [
+word_home t (Shared a i) h = elim (t.words.sizes a.0) as (λ o. t.words.sizes a.0 ≡ o → unwrap_or (option_map (λ n. nat_lt i n) o) false ≡ true → HasHome (shown_of t).bound (shown_of t).areas (Shared a i)) [
   | None ↦ λ e x. cc
   | Some n ↦ λ e x. (n, (e, ltb-true i n x))
 ] refl h

@@ -34,7 +34,7 @@ pub record LinesHold (s : PartsOf) : Type 0 where
 
 pub record PagesHold (s : PartsOf) : Type 0 where
   -- a live key has a word
-  pub home : (k : Key) → is_live s.life k ≡ true → HasHome s k
+  pub home : (k : Key) → is_live s.life k ≡ true → HasHome s.bound s.areas k
   -- a key stands in the frame that has it
   pub owner : (k : Key) (f : Frame) → s.life.stands k ≡ held.Frame f →
       (record_at s.life.frames f.0).owner ≡ Some k

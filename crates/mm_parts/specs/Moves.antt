@@ -63,8 +63,8 @@ abbrev pub own_after : LineKind → Option Frame → Frame → Option Frame
 own_after k own f = if is_own_line k then Some f else own
 
 -- there is room for the line's own request, where a request would be one
-abbrev pub CanBegin : PartsOf → Type 0
-CanBegin s = is_own_line s.life.kind ≡ true → s.own ≡ None
+abbrev pub CanBegin : LineKind → Option Frame → Type 0
+CanBegin kind_of_line own = is_own_line kind_of_line ≡ true → own ≡ None
 
 abbrev pub own_ended : Option Frame → ℕ → Option Frame
 own_ended None f = None
@@ -75,12 +75,12 @@ abbrev pub aside_added : Option Key → Option Place → Place → Option Place
 aside_added None aside place = aside
 aside_added (Some k) aside place = Some place
 
-abbrev pub aside_after_add : PartsOf → Key → Option Place
-aside_after_add s (Private p v) = aside_added (s.names (record {
+abbrev pub aside_after_add : (Place → Option Key) → Option Place → Key → Option Place
+aside_after_add names aside (Private p v) = aside_added (names (record {
   pid = p;
   vpn = v;
-})) s.aside (record { pid = p; vpn = v })
-aside_after_add s (Shared a i) = s.aside
+})) aside (record { pid = p; vpn = v })
+aside_after_add names aside (Shared a i) = aside
 
 -- it stands there no more once its place is valid for it
 abbrev pub left_by : Option Place → Place → Option Place
@@ -94,16 +94,16 @@ names_given None names place = changed same_place names place (Some (key_of_plac
 names_given (Some q) names place = if same_place place q then names else
     changed same_place names place (Some (key_of_place place))
 
-abbrev pub names_after_give : PartsOf → Key → Place → Option Key
-names_after_give s (Private p v) = names_given s.aside s.names (record { pid = p; vpn = v })
-names_after_give s (Shared a i) = s.names
+abbrev pub names_after_give : Option Place → (Place → Option Key) → Key → Place → Option Key
+names_after_give aside names (Private p v) = names_given aside names (record { pid = p; vpn = v })
+names_after_give aside names (Shared a i) = names
 
-abbrev pub names_after_map : PartsOf → Frame → Place → Place → Option Key
-names_after_map s f place = changed same_place s.names place (record_at s.life.frames f.0).owner
+abbrev pub names_after_map : FrameTable → (Place → Option Key) → Frame → Place → Place → Option Key
+names_after_map d names f place = changed same_place names place (record_at d f.0).owner
 
-abbrev pub names_after_drop : PartsOf → Key → Place → Option Key
-names_after_drop s (Private p v) = changed same_place s.names (record { pid = p; vpn = v }) None
-names_after_drop s (Shared a i) = s.names
+abbrev pub names_after_drop : (Place → Option Key) → Key → Place → Option Key
+names_after_drop names (Private p v) = changed same_place names (record { pid = p; vpn = v }) None
+names_after_drop names (Shared a i) = names
 
 -- ---- the requests in flight
 
@@ -121,18 +121,18 @@ flight_ended own q f ok = if own then q else record q {
 -- ---- keys
 
 -- the key has a word: its place is bound, or its index is one of an open area
-abbrev pub HasHome : PartsOf → Key → Type 0
-HasHome s (Private p v) = s.bound (record { pid = p; vpn = v }) ≡ true
-HasHome s (Shared a i) = (n : ℕ) × ((s.areas a.0 ≡ Some n) × (i < n))
+abbrev pub HasHome : (Place → Bool) → (ℕ → Option ℕ) → Key → Type 0
+HasHome bound areas (Private p v) = bound (record { pid = p; vpn = v }) ≡ true
+HasHome bound areas (Shared a i) = (n : ℕ) × ((areas a.0 ≡ Some n) × (i < n))
 
 -- a private key comes to be at a place that names none, or in an access beside the tables, where
 -- nothing stands there
-abbrev pub IsClear : PartsOf → Key → Type 0
-IsClear s (Private p v) = (s.names (record {
+abbrev pub IsClear : LineKind → (Place → Option Key) → Option Place → Key → Type 0
+IsClear kind_of_line names aside (Private p v) = (names (record {
   pid = p;
   vpn = v;
-}) ≡ None) ⊎ ((is_touch s.life.kind ≡ true) × (s.aside ≡ None))
-IsClear s (Shared a i) = Unit {0}
+}) ≡ None) ⊎ ((is_touch kind_of_line ≡ true) × (aside ≡ None))
+IsClear kind_of_line names aside (Shared a i) = Unit {0}
 
 -- the page of an entry is no more: its frame goes, or its slot
 abbrev pub table_released : Entry → FrameTable → FrameTable
@@ -192,9 +192,9 @@ IsReleased (entry.Valid f n) d = Unit {0}
 IsReleased (entry.Proto a i) d = Unit {0}
 
 -- a shared page becomes valid where the place's own private key is dead
-abbrev pub MayMap : PartsOf → Frame → Place → Type 0
-MayMap s f place = owner_is is_shared (record_at s.life.frames f.0) ≡ true →
-    is_dead (s.life.stands (key_of_place place)) ≡ true
+abbrev pub MayMap : FrameLife → Frame → Place → Type 0
+MayMap l f place = owner_is is_shared (record_at l.frames f.0) ≡ true →
+    is_dead (l.stands (key_of_place place)) ≡ true
 
 -- ---- lines
 

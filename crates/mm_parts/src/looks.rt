@@ -86,7 +86,7 @@ impl Parts {
     /// Where the bytes of a key stand, or that it is not live. Its place is bound, or its index is
     /// one of an open area.
     pub fn stands(&self, key: Key) -> Held
-        requires { HasHome (shown_parts self.now) key }
+        requires { HasHome (shown_parts self.now).bound (shown_parts self.now).areas key }
         ensures { result ≡ (shown_parts self.now).life.stands key }
     {
         let entry = self.words.word(key);

@@ -106,7 +106,7 @@ impl Parts {
         ensures made { shown_parts self.new ≡
             record (parts_after (shown_parts self.old) (move.Give result key)) {
               names =
-                  names_after_give (shown_parts self.old) key;
+                  names_after_give (shown_parts self.old).aside (shown_parts self.old).names key;
             } }
     {
         self.words.words_hold();
@@ -148,12 +148,13 @@ impl Parts {
     /// stands beside the tables, since its place names the page that is copied.
     pub fn add_zero(&mut self, key: Key)
         requires legal { IsLegal (move.Add key None) (shown_parts self.old).life }
-        requires home { HasHome (shown_parts self.old) key }
-        requires clear { IsClear (shown_parts self.old) key }
+        requires home { HasHome (shown_parts self.old).bound (shown_parts self.old).areas key }
+        requires clear { IsClear (shown_parts self.old).life.kind (shown_parts self.old).names
+            (shown_parts self.old).aside key }
         ensures made { shown_parts self.new ≡
             record (parts_after (shown_parts self.old) (move.Add key None)) {
               aside =
-                  aside_after_add (shown_parts self.old) key;
+                  aside_after_add (shown_parts self.old).names (shown_parts self.old).aside key;
             } }
     {
         self.paging_keys += 1;
@@ -166,7 +167,7 @@ impl Parts {
     /// A page of a file comes to be, on its block.
     pub fn add_block(&mut self, key: Key, b: Block)
         requires legal { IsLegal (move.Add key (Some b)) (shown_parts self.old).life }
-        requires home { HasHome (shown_parts self.old) key }
+        requires home { HasHome (shown_parts self.old).bound (shown_parts self.old).areas key }
         ensures made { shown_parts self.new ≡ parts_after (shown_parts self.old)
             (move.Add key (Some b)) }
     {
@@ -180,7 +181,7 @@ impl Parts {
         ensures made { shown_parts self.new ≡
             record (parts_after (shown_parts self.old) (move.Drop key)) {
               names =
-                  names_after_drop (shown_parts self.old) key;
+                  names_after_drop (shown_parts self.old).names key;
             } }
     {
         self.words.words_hold();
@@ -195,12 +196,13 @@ impl Parts {
     pub fn map(&mut self, f: Frame, place: Place)
         requires legal { IsLegal (move.Map f place) (shown_parts self.old).life }
         requires bound { (shown_parts self.old).bound place ≡ true }
-        requires alone { MayMap (shown_parts self.old) f place }
+        requires alone { MayMap (shown_parts self.old).life f place }
         ensures made { shown_parts self.new ≡ record
             (parts_after (shown_parts self.old) (move.Map f place)) {
               ages = changed same_place (shown_parts self.old).ages place 0;
               aside = left_by (shown_parts self.old).aside place;
-              names = names_after_map (shown_parts self.old) f place;
+              names = names_after_map (shown_parts self.old).life.frames
+                  (shown_parts self.old).names f place;
             } }
     {
         self.words.words_hold();

@@ -74,7 +74,7 @@ impl Parts {
     pub fn start_read(&mut self, key: Key) -> Frame
         requires legal { IsLegal (move.Read (front_for_read (shown_parts self.old).life) key)
             (shown_parts self.old).life }
-        requires room { CanBegin (shown_parts self.old) }
+        requires room { CanBegin (shown_parts self.old).life.kind (shown_parts self.old).own }
         ensures frame { result ≡ front_for_read (shown_parts self.old).life }
         ensures made { shown_parts self.new ≡
             record (parts_after (shown_parts self.old) (move.Read result key)) {
@@ -138,7 +138,7 @@ impl Parts {
     pub fn start_write(&mut self, f: Frame) -> Stored
         requires legal { IsLegal (move.Write f (write_target (shown_parts self.old).life f))
             (shown_parts self.old).life }
-        requires room { CanBegin (shown_parts self.old) }
+        requires room { CanBegin (shown_parts self.old).life.kind (shown_parts self.old).own }
         ensures to { result ≡ write_target (shown_parts self.old).life f }
         ensures made { shown_parts self.new ≡
             record (parts_after (shown_parts self.old) (move.Write f result)) {

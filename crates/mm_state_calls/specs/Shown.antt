@@ -1,18 +1,16 @@
 -- What a machine's joined state shows to the store of pages above it, and what its calls make of
 -- that. Profile, "Which frame moves, and when".
-use Rattle.std.specs.Prelude.{◌≡◌, ◌<◌, ◌⊎◌, ℕ, Bool, true, false, List, [], ◌∷◌, Option, Some, None}
+use Rattle.std.specs.Prelude.{◌≡◌, ◌<◌, ◌⊎◌, ℕ, Bool, true, false, List, [], ◌∷◌, Option, None}
 use Rattle.mm_types.specs.{Direction, Frame, Key, Place, Backing, Move}
 use Rattle.mm_types.specs.declared.devices.Direction.TheVariants as way
-use Rattle.mm_types.specs.declared.numbers.Key.TheVariants.{Private, Shared}
 use Rattle.mm_types.specs.declared.frames.Backing.TheVariants as backing
 use Rattle.mm_types.specs.declared.moves.Move.TheVariants as move
-use Rattle.mm_move_rules.specs.{record_at, FrameLife, changed, same_place, key_of_place, is_shared, is_dead, IsLegal, is_touch, owner_is, after_move, Log}
+use Rattle.mm_move_rules.specs.{record_at, FrameLife, IsLegal, after_move, Log}
 use Rattle.mm_move_rules.specs.{Grew, AreMoves, spelled_moves, Waiting, waits_after, ages_after, BlockBytes}
 use Rattle.mm_devices.specs.{is_named, DeviceOf, Serves, CallFailed, KeepsOthers}
 use Rattle.mm_frame_laws.specs.{slots_written, blocks_written}
 use Rattle.mm_store.specs.{told_after, none_told, paging_traffic, file_traffic}
 use Rattle.mm_store.specs.Told.{Told}
-use Rattle.mm_parts.specs.{is_own_line, aside_added, names_given}
 
 pub record StateOf : Type 0 where
   -- the state of the replay, and the log
@@ -129,49 +127,6 @@ moved_with_call s z = record (moved s z) {
 }
 
 -- ---- keys and places
-
--- the key has a word: its place is bound, or its index is one of an open area
-abbrev pub HasHome : StateOf → Key → Type 0
-HasHome s (Private p v) = s.bound (record { pid = p; vpn = v }) ≡ true
-HasHome s (Shared a i) = (n : ℕ) × ((s.areas a.0 ≡ Some n) × (i < n))
-
--- a private key comes to be at a place that names none, or beside the tables where nothing stands
--- there
-abbrev pub IsClear : StateOf → Key → Type 0
-IsClear s (Private p v) = (s.names (record {
-  pid = p;
-  vpn = v;
-}) ≡ None) ⊎ ((is_touch s.life.kind ≡ true) × (s.aside ≡ None))
-IsClear s (Shared a i) = Unit {0}
-
--- it comes to stand beside the tables where its place names a page
-abbrev pub aside_after_add : StateOf → Key → Option Place
-aside_after_add s (Private p v) = aside_added (s.names (record {
-  pid = p;
-  vpn = v;
-})) s.aside (record { pid = p; vpn = v })
-aside_after_add s (Shared a i) = s.aside
-
--- a private page that has a frame is used at its place, unless it stands beside the tables
-abbrev pub names_after_give : StateOf → Key → Place → Option Key
-names_after_give s (Private p v) = names_given s.aside s.names (record { pid = p; vpn = v })
-names_after_give s (Shared a i) = s.names
-
-abbrev pub names_after_map : StateOf → Frame → Place → Place → Option Key
-names_after_map s f place = changed same_place s.names place (record_at s.life.frames f.0).owner
-
-abbrev pub names_after_drop : StateOf → Key → Place → Option Key
-names_after_drop s (Private p v) = changed same_place s.names (record { pid = p; vpn = v }) None
-names_after_drop s (Shared a i) = s.names
-
--- a shared page becomes valid where the place's own private key is dead
-abbrev pub MayMap : StateOf → Frame → Place → Type 0
-MayMap s f place = owner_is is_shared (record_at s.life.frames f.0) ≡ true →
-    is_dead (s.life.stands (key_of_place place)) ≡ true
-
--- there is room for the line's own request, where a request would be one
-abbrev pub CanBegin : StateOf → Type 0
-CanBegin s = is_own_line s.life.kind ≡ true → s.own ≡ None
 
 -- a call of one of both devices failed
 abbrev pub SomeFault : StateOf → StateOf → Type 0

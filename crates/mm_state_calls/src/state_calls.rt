@@ -16,10 +16,10 @@ ghost use Rattle.mm_ram.specs.{bytes_from, overwritten};
 ghost use Rattle.mm_pfn_database.specs.{has_block, modified_with_block, IsAtRest};
 ghost use Rattle.mm_requests.specs.{nth_oldest, place_in};
 ghost use Rattle.mm_working_sets.specs.{IsNextFrom};
-ghost use Rattle.mm_parts.specs.{front, front_for_read, own_after, own_ended, end_of_read, write_end, write_target, left_by, IsPlainLine, after_page};
+ghost use Rattle.mm_parts.specs.{front, front_for_read, own_after, own_ended, end_of_read, write_end, write_target, left_by, IsPlainLine, after_page, HasHome, IsClear, MayMap, CanBegin, aside_after_add, names_after_drop, names_after_give, names_after_map};
 ghost use Rattle.mm_store.specs.{with_named, with_write};
 ghost use Rattle.mm_frame_laws.specs.{IsNextPage, NoPageFollows, IsSoiled};
-ghost use Rattle.mm_state_calls.specs.Shown.{StateOf, Made, GrowBegins, WrotePage, DeviceCalled, moved, moved_with_call, asked_to_grow, backing_of_frame, written_if, HasHome, IsClear, MayMap, CanBegin, aside_after_add, names_after_give, names_after_map, names_after_drop, KeepsRequests};
+ghost use Rattle.mm_state_calls.specs.Shown.{StateOf, Made, GrowBegins, WrotePage, DeviceCalled, moved, moved_with_call, asked_to_grow, backing_of_frame, written_if, KeepsRequests};
 ghost use Rattle.mm_state_calls.specs.Holds.{StateHolds};
 
 use mm_types::{
@@ -169,19 +169,20 @@ pub trait StateCalls {
     /// stands beside the tables, since its place names the page that is copied.
     fn add_zero(&mut self, key: Key)
         requires legal { IsLegal (move.Add key None) (shown self.old).life }
-        requires home { HasHome (shown self.old) key }
-        requires clear { IsClear (shown self.old) key }
+        requires home { HasHome (shown self.old).bound (shown self.old).areas key }
+        requires clear { IsClear (shown self.old).life.kind (shown self.old).names
+            (shown self.old).aside key }
         ensures made { Made (move.Add key None) (shown self.old) (shown self.new) }
         ensures rest { shown self.new ≡ record (moved (shown self.old) (shown self.new)) {
           contents = changed same_key (shown self.old).contents key (Some zero_page);
-          aside = aside_after_add (shown self.old) key;
+          aside = aside_after_add (shown self.old).names (shown self.old).aside key;
         } }
         ensures loans { loans self.new ≡ loans self.old };
 
     /// A page of a file comes to be: its bytes are those of its block.
     fn add_block(&mut self, key: Key, b: Block)
         requires legal { IsLegal (move.Add key (Some b)) (shown self.old).life }
-        requires home { HasHome (shown self.old) key }
+        requires home { HasHome (shown self.old).bound (shown self.old).areas key }
         ensures made { Made (move.Add key (Some b)) (shown self.old) (shown self.new) }
         ensures rest { shown self.new ≡ record (moved (shown self.old) (shown self.new)) {
           contents = changed same_key (shown self.old).contents key
@@ -195,7 +196,7 @@ pub trait StateCalls {
         ensures made { Made (move.Drop key) (shown self.old) (shown self.new) }
         ensures rest { shown self.new ≡ record (moved (shown self.old) (shown self.new)) {
           contents = changed same_key (shown self.old).contents key None;
-          names = names_after_drop (shown self.old) key;
+          names = names_after_drop (shown self.old).names key;
         } }
         ensures loans { loans self.new ≡ loans self.old };
 
@@ -230,7 +231,7 @@ pub trait StateCalls {
         ensures rest { shown self.new ≡
             record (moved (shown self.old) (shown self.new)) {
               names =
-                  names_after_give (shown self.old) key;
+                  names_after_give (shown self.old).aside (shown self.old).names key;
             } }
         ensures loans { loans self.new ≡ loans self.old };
 
@@ -239,11 +240,11 @@ pub trait StateCalls {
     fn map(&mut self, f: Frame, place: Place)
         requires legal { IsLegal (move.Map f place) (shown self.old).life }
         requires bound { (shown self.old).bound place ≡ true }
-        requires alone { MayMap (shown self.old) f place }
+        requires alone { MayMap (shown self.old).life f place }
         ensures quiet { is_read (record_at (shown self.new).life.frames f.0).request ≡ false }
         ensures made { Made (move.Map f place) (shown self.old) (shown self.new) }
         ensures rest { shown self.new ≡ record (moved (shown self.old) (shown self.new)) {
-          names = names_after_map (shown self.old) f place;
+          names = names_after_map (shown self.old).life.frames (shown self.old).names f place;
           aside = left_by (shown self.old).aside place;
         } }
         ensures loans { loans self.new ≡ loans self.old };
@@ -275,7 +276,7 @@ pub trait StateCalls {
     fn start_read(&mut self, key: Key) -> Frame
         requires legal { IsLegal (move.Read (front_for_read (shown self.old).life) key)
             (shown self.old).life }
-        requires room { CanBegin (shown self.old) }
+        requires room { CanBegin (shown self.old).life.kind (shown self.old).own }
         ensures frame { result ≡ front_for_read (shown self.old).life }
         ensures reading { is_read (record_at (shown self.new).life.frames result.0).request ≡ true }
         ensures made { Made (move.Read result key) (shown self.old) (shown self.new) }
@@ -305,7 +306,7 @@ pub trait StateCalls {
     fn start_write(&mut self, f: Frame) -> Stored
         requires legal { IsLegal (move.Write f (write_target (shown self.old).life f))
             (shown self.old).life }
-        requires room { CanBegin (shown self.old) }
+        requires room { CanBegin (shown self.old).life.kind (shown self.old).own }
         ensures to { result ≡ write_target (shown self.old).life f }
         ensures made { Made (move.Write f result) (shown self.old) (shown self.new) }
         ensures rest { shown self.new ≡
@@ -465,7 +466,7 @@ pub trait StateCalls {
     /// Where the bytes of a key stand, or that it is not live. Its place is bound, or its index is
     /// one of an open area.
     fn stands(&self, key: Key) -> Held
-        requires { HasHome (shown self.now) key }
+        requires { HasHome (shown self.now).bound (shown self.now).areas key }
         ensures { result ≡ (shown self.now).life.stands key };
 
     /// The frame that a bound place is valid for, if it is valid.

@@ -16,7 +16,7 @@ set_word-requires-clause-fits c =
     frame_fits (joined_parts c.args.self.now) c.args.self.now.kept c.bind-f.result (omega (arith, low, same))
 
 made : (c : After-set_word) → Step (record (joined_parts c.args.self.now) { table = c.bind-f.new.self.table; bytes = c.bind-f.new.self.bytes; words = tables.words c.set_word.new.self; ages = tables.place_ages c.set_word.new.self })
-    (record (parts_after (shown_parts c.args.self.now) (move.Give c.bind-f.result c.args.key)) { names = names_after_give (shown_parts c.args.self.now) c.args.key })
+    (record (parts_after (shown_parts c.args.self.now) (move.Give c.bind-f.result c.args.key)) { names = names_after_give (shown_parts c.args.self.now).aside (shown_parts c.args.self.now).names c.args.key })
 made c =
     let s = c.args.self.now in
     let f = c.bind-f.result in

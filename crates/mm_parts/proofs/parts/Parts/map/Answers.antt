@@ -32,7 +32,7 @@ made : (c : After-name_frame) → Step (record (joined_parts c.args.self.now) { 
     (record (parts_after (shown_parts c.args.self.now) (move.Map c.args.f c.args.place)) {
       ages = changed same_place (shown_parts c.args.self.now).ages c.args.place 0;
       aside = left_by (shown_parts c.args.self.now).aside c.args.place;
-      names = names_after_map (shown_parts c.args.self.now) c.args.f c.args.place;
+      names = names_after_map (shown_parts c.args.self.now).life.frames (shown_parts c.args.self.now).names c.args.f c.args.place;
     })
 made c =
     let s = c.args.self.now in
