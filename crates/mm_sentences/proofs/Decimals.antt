@@ -3,7 +3,7 @@ use Rattle.std.proofs.Common.{◌≡◌, ℕ, zero, suc, ◌+◌, ◌/◌, ◌%�
 use Rattle.std.proofs.lemmas.Bool.{lt-ltb, cases_lt}
 use Rattle.std.proofs.Math.Nat.{mod-eq_of_lt}
 use Rattle.mm_types.specs.{Text, glyph, decimal, decimal_onto}
-use Rattle.mm_sentences.specs.Digits.{two_digits, three_digits}
+use Rattle.mm_sentences.specs.{two_digits, three_digits}
 use Rattle.mm_log_writer.proofs.{step_last, step_more, below_power, onto_append}
 
 -- room for one digit more changes nothing

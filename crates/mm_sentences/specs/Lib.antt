@@ -9,6 +9,7 @@ pub mod Tested
 pub mod Refusals
 pub use Words.{address_text, addressed, key_text, kind_text, place_text}
 pub use States.{frame_row, frame_row_text, state_by, state_of, state_text}
+pub use Digits.{three_digits, two_digits}
 pub use Facts.{facts_of}
 pub use Sentences.{home_text, sentence_text}
 pub use Pieces.{piece_text}

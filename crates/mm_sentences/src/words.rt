@@ -2,8 +2,7 @@ ghost use Rattle.std.specs.Prelude.{◌≡◌, ◌<◌, ◌^◌, ◌++◌, ◌�
 ghost use Rattle.mm_types.specs.{decimal, glyph};
 ghost use Rattle.mm_move_rules.specs.{numbered, kind_onto, place_onto};
 ghost use Rattle.mm_text.specs.{hex_short};
-ghost use Rattle.mm_sentences.specs.Digits.{two_digits, three_digits};
-ghost use Rattle.mm_sentences.specs.{key_text, kind_text, address_text, addressed, place_text};
+ghost use Rattle.mm_sentences.specs.{two_digits, three_digits, key_text, kind_text, address_text, addressed, place_text};
 ghost use Rattle.mm_types.specs.declared.moves.LineKind.TheVariants as kind_of;
 
 use mm_text::{LineBuf, put_hex_short};

@@ -1,8 +1,7 @@
 ghost use Rattle.std.specs.Prelude.{◌≡◌, ◌++◌, OnOk, option_map};
 ghost use Rattle.mm_replay.specs.Standing.{life as life_of};
-ghost use Rattle.mm_transcripts.specs.Writers.{writes_of, writes_read, writes_asked, modified_pages};
-ghost use Rattle.mm_transcripts.specs.Writers.{lacks_slots, unwritten_pages, unwritten_row};
-ghost use Rattle.mm_transcripts.specs.Writers.{unwritten_text, unwritten_before, unwritten_end};
+ghost use Rattle.mm_transcripts.specs.{writes_of, writes_read, writes_asked, modified_pages, lacks_slots, unwritten_pages, unwritten_row};
+ghost use Rattle.mm_transcripts.specs.{unwritten_text, unwritten_before, unwritten_end};
 
 use mm_replay::{FrameList, Life};
 use mm_script::parse_line;
