@@ -1,6 +1,8 @@
+pub mod Begun
 pub mod Few
 pub mod Lines
 pub mod Recorded
+pub use Begun.{begun_pid, SpellsBegun}
 pub use Few.{few_entry}
 pub use Lines.{Puts}
 pub use Recorded.{FailsExactly}

@@ -2,6 +2,7 @@
 //! sink.
 #![tactic(auto)]
 
+mod begun;
 mod recorders;
 mod spellings;
 

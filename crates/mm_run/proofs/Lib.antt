@@ -23,7 +23,7 @@ pub mod WrittenPages
 pub mod WatchLines
 pub mod WatchesTold
 pub mod StagesStand
-mod Pairs
+pub mod Pairs
 pub use Ends.{accounted, accounted_behind, accounted_memory, blamed_beside, blamed_end, blamed_open}
 pub use Ends.{came_usage}
 pub use Scripts.{exact, not_usage, usage}
