@@ -13,7 +13,7 @@ import shutil
 import subprocess
 import tempfile
 import time
-from typing import Any
+from typing import Any, Dict
 
 from common import apt
 
@@ -54,8 +54,8 @@ class Browser:
     def __init__(
         self, name: str, width: int = 1500, height: int = 1400, is_phone: bool = False
     ) -> None:
-        # its helpers may still write there as it ends
-        self.profile = tempfile.TemporaryDirectory(ignore_cleanup_errors=True)
+        # its helpers may still write there as it ends (the word is Python 3.10's)
+        self.profile = tempfile.TemporaryDirectory(ignore_cleanup_errors=True)  # type: ignore[call-overload]
         (reads, self.to), (self.back, writes) = os.pipe(), os.pipe()
         words = [name, "--headless=new", "--no-sandbox", "--disable-gpu", "--hide-scrollbars"]
         words += ["--remote-debugging-pipe", f"--user-data-dir={self.profile.name}", "about:blank"]
@@ -124,7 +124,8 @@ class Browser:
                 continue
             if "error" in answer:
                 raise BrowserError(f"{method}: {answer['error']}")
-            return answer["result"]
+            result: Dict[str, Any] = answer["result"]
+            return result
 
     def run(self, script: str) -> Any:
         """The value of a script in the page, a promise's when it is kept."""

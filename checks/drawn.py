@@ -259,7 +259,8 @@ class Script:
     def seldom(self) -> None:
         """What changes the machine, or ends a process."""
         draw = self.draw
-        ways = [self.process, self.file, lambda: self.add(f"grow {draw.randint(1, 9)}")]
+        ways: list[Callable[[], None]] = [self.process, self.file]
+        ways.append(lambda: self.add(f"grow {draw.randint(1, 9)}"))
         ways.append(lambda: self.add(f"exit {self.pid()}"))
         if self.fails:
             device, way = draw.choice(["paging", "file"]), draw.choice(["read", "write"])
@@ -411,11 +412,8 @@ def main() -> int:
     words = check.words
     print(f"drawn: seed {words.seed} (again: python3 checks/drawn.py --seed {words.seed})")
     first = zlib.crc32(str(words.seed).encode()) * 1000
-    programs = check.programs
-    tasks = [
-        Task(*(programs[it] for it in ("mmsim", "mmlog", "mmunpaged")), first + at, words.lines)
-        for at in range(words.scripts)
-    ]
+    mmsim, mmlog, mmunpaged = (check.programs[it] for it in ("mmsim", "mmlog", "mmunpaged"))
+    tasks = [Task(mmsim, mmlog, mmunpaged, first + at, words.lines) for at in range(words.scripts)]
     moves = spoils = 0
     with concurrent.futures.ProcessPoolExecutor(processors()) as pool:
         for result in pool.map(compare, tasks):

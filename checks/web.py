@@ -31,7 +31,7 @@ import shutil
 import subprocess
 import sys
 import tempfile
-from typing import Dict, List, Tuple
+from typing import Any, Dict, List, Tuple
 
 TOP = os.path.dirname(os.path.dirname(os.path.abspath(__file__)))
 sys.path.insert(0, os.path.join(TOP, "checks"))
@@ -68,7 +68,9 @@ class Native:
     def lacking(self) -> List[str]:
         return [path for path in self.paths.values() if not os.access(path, os.X_OK)]
 
-    def run(self, name: str, words: List[str], given: bytes, folder: str = "") -> Tuple:
+    def run(
+        self, name: str, words: List[str], given: bytes, folder: str = ""
+    ) -> Tuple[int, bytes, bytes]:
         """Status, output and standard error of a run."""
         ended = subprocess.run(
             [self.paths[name], *words],
@@ -79,7 +81,7 @@ class Native:
         )
         return ended.returncode, ended.stdout, ended.stderr
 
-    def result(self, case: Case) -> List:
+    def result(self, case: Case) -> List[Any]:
         program, words, given, files = case
         with tempfile.TemporaryDirectory() as folder:
             for name, data in files.items():
@@ -126,7 +128,7 @@ def of_mmsim(draw: random.Random, native: Native) -> List[Case]:
         run(given)
     run(bytes(draw.randrange(256) for _ in range(5000)))
     run(b"machine 6 0 1 0\n" * 1 + b"charge\n" * 20_000)
-    no_forms = [[], ["run", "x"], ["bulk"], ["bulk", "x", "1"], ["", ""], ["help"]]
+    no_forms: List[List[str]] = [[], ["run", "x"], ["bulk"], ["bulk", "x", "1"], ["", ""], ["help"]]
     no_forms += [["bulk", "1", "18446744073709551616"], ["bulk", "18446744073709551616", "1"]]
     found += [("mmsim", words, b"machine 6 0 1 0\n", {}) for words in no_forms]
     return found
@@ -134,11 +136,12 @@ def of_mmsim(draw: random.Random, native: Native) -> List[Case]:
 
 def of_mmnames(draw: random.Random) -> List[Case]:
     lab = read(f"{TOP}/examples/lab.txt")
-    found: List[Case] = [("mmnames", words, lab, {}) for words in (["lines"], [], ["talk"], ["x"])]
+    forms: List[List[str]] = [["lines"], [], ["talk"], ["x"]]
+    found: List[Case] = [("mmnames", words, lab, {}) for words in forms]
     for path in sorted(glob.glob(f"{TOP}/tests/mistakes/*.txt")):
         for block in read(path).split(b"\n= ")[1:]:
             written = block.split(b"\n", 1)[1].split(b"--\n", 1)[0]
-            found += [("mmnames", words, written, {}) for words in ([], ["lines"], ["talk"])]
+            found += [("mmnames", words, written, {}) for words in forms[:3]]
     found += [("mmnames", ["lines"], script, {}) for script in scripts()]
     for _ in range(150):
         at = draw.randrange(len(lab) + 1)
@@ -150,6 +153,8 @@ def of_mmnames(draw: random.Random) -> List[Case]:
 
 FORMS = [["html", "S", "A"], ["html", "S"], ["html"], ["tell", "S", "A"], ["tell", "S"], ["tell"]]
 FORMS += [["counts"], ["counts", "3"], ["faults"], ["sums"], ["state", "5"], ["frame", "1"]]
+FORMS += [["html", "S", "A", "O"], ["events", "S", "A"], ["events"], ["faults", "csv"]]
+FORMS += [["counts", "csv"], ["counts", "csv", "S", "A"]]
 FORMS += [["key", "p1.16"], ["key", "1:0x10000"], ["tell", "none", "none"], ["html", "none"], []]
 
 
@@ -160,15 +165,14 @@ def of_logs(draw: random.Random, native: Native) -> List[Case]:
         _, answers, log = native.run("mmsim", ["run"], script)
         if len(log) >= MOST_LOG:
             continue
-        files = {"S": script, "A": answers}
+        files = {"S": script, "A": answers, "O": b""}
         found += [("mmlog", ["check"], log, {}), ("mmlog", ["where", "p1.16"], log, {})]
         found += [("mmshow", words, log, files) for words in FORMS]
         for spoiled in spoiled_logs(draw, log):
             found += [("mmlog", ["check"], spoiled, {}), ("mmlog", ["where", "s0.1"], spoiled, {})]
             found += [("mmshow", words, spoiled, files) for words in (FORMS[0], FORMS[3])]
-    found += [
-        ("mmlog", words, b"", {}) for words in ([], ["check", "x"], ["where"], ["where", "q"])
-    ]
+    no_forms: List[List[str]] = [[], ["check", "x"], ["where"], ["where", "q"]]
+    found += [("mmlog", words, b"", {}) for words in no_forms]
     for path in sorted(glob.glob(f"{TOP}/tests/rows/logs/*.log")):
         found += [("mmlog", ["check"], read(path), {}), ("mmshow", ["tell"], read(path), {})]
     return found
@@ -188,7 +192,7 @@ def spoiled_logs(draw: random.Random, log: bytes) -> List[bytes]:
 # ---- comparing
 
 
-def by_node(cases: List[Case], room: str) -> List[List]:
+def by_node(cases: List[Case], room: str) -> List[List[Any]]:
     """The results of the WebAssembly programs, in as many Node processes as there are processors."""
     names: Dict[bytes, str] = {}
 
@@ -207,13 +211,13 @@ def by_node(cases: List[Case], room: str) -> List[List]:
     parts = [(told[at::shares], f"{room}/{at}") for at in range(shares)]
     with concurrent.futures.ThreadPoolExecutor(shares) as pool:
         found = list(pool.map(by_one_node, parts))
-    results: List[List] = [[]] * len(cases)
+    results: List[List[Any]] = [[]] * len(cases)
     for at, some in enumerate(found):
         results[at::shares] = some
     return results
 
 
-def by_one_node(part: Tuple[List, str]) -> List[List]:
+def by_one_node(part: Tuple[List[Any], str]) -> List[List[Any]]:
     """The results of some cases in one Node process."""
     told, place = part
     with open(f"{place}.cases", "w", encoding="utf-8") as file:
@@ -222,7 +226,8 @@ def by_one_node(part: Tuple[List, str]) -> List[List]:
     words = ["node", f"{TOP}/checks/web_node.mjs", *places, f"{place}.results"]
     subprocess.run(words, check=True, timeout=1800)
     with open(f"{place}.results", encoding="utf-8") as file:
-        return json.load(file)
+        results: List[List[Any]] = json.load(file)
+    return results
 
 
 def compare(native: Native, seed: int) -> Tuple[int, int]:

@@ -50,7 +50,8 @@ class Checks:
         self.same(what, bool(is_so), True)
 
     def open(self, place: str = "", is_dark: bool = False, **size: Any) -> Browser:
-        page = Browser(self.browser, **{"height": 950, **size})
+        asked: Dict[str, Any] = {"height": 950, **size}
+        page = Browser(self.browser, **asked)
         page.is_dark(is_dark)
         page.open(self.path, place, f"{RUNS} > 0")
         return page
@@ -351,8 +352,9 @@ class Checks:
 
     def sizes(self) -> None:
         """A phone, and a dark screen: the page is drawn, and nothing is written to the console."""
-        phone = {"width": 390, "height": 800, "is_phone": True}
-        for what, size in (("a phone", phone), ("dark", {})):
+        phone: Dict[str, Any] = {"width": 390, "height": 800, "is_phone": True}
+        screens: List[Tuple[str, Dict[str, Any]]] = [("a phone", phone), ("dark", {})]
+        for what, size in screens:
             page = self.open(is_dark=not size, **size)
             try:
                 wide = page.run("document.documentElement.scrollWidth <= innerWidth")
@@ -428,7 +430,7 @@ def rested(page: Browser) -> None:
 def awaited(page: Browser, text: str, part: str) -> str:
     """The value of a text, once it has a part."""
     page.wait(f"({text}).includes({json.dumps(part)})", 20)
-    return page.run(text)
+    return str(page.run(text))
 
 
 def rewritten(plain: str, machine: Dict[str, Any]) -> str:

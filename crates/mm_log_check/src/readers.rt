@@ -29,7 +29,7 @@ pub struct LogReader {
 }
 
 impl LogReader {
-    /// A reader at the beginning of a log, before the line `at 1 machine`.
+    /// Nothing was read.
     pub fn new() -> LogReader
         ensures ready { IsReadyToRead result }
         ensures lines { result.lines ≡ 0 }

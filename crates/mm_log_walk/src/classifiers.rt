@@ -115,7 +115,7 @@ pub struct Classifier {
 }
 
 impl Classifier {
-    /// A classifier at the beginning of a log, which has taken no move yet.
+    /// No move was taken.
     pub fn new(alloc: Global) -> Classifier
         ensures marks { marks_of result.marks ≡ no_marks }
         ensures none { result.pending ≡ None }

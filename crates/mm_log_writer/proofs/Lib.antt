@@ -1,4 +1,3 @@
-mod Counted
 mod Fronts
 pub mod Growing
 mod Table

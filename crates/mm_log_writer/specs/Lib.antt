@@ -1,8 +1,6 @@
-pub mod Begun
 pub mod Few
 pub mod Lines
 pub mod Recorded
-pub use Begun.{begun_pid, SpellsBegun}
 pub use Few.{few_entry}
 pub use Lines.{Puts}
 pub use Recorded.{FailsExactly}

@@ -2,7 +2,6 @@
 //! sink.
 #![tactic(auto)]
 
-mod begun;
 mod recorders;
 mod spellings;
 

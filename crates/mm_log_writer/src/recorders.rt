@@ -3,7 +3,6 @@ ghost use Rattle.mm_types.specs.{Loans, Loan};
 ghost use Rattle.mm_move_rules.specs.{Log, Grew, Flushed, spelling_of_move, IsMove};
 ghost use Rattle.mm_log_writer.specs.Recorded.{FailsExactly};
 
-use crate::begun::Begun;
 use crate::spellings::{EMPTY, Line, put_line};
 use mm_io::{Sink, write_all};
 use mm_types::{Failed, Move};
@@ -42,7 +41,6 @@ pub struct Recorder<'a, K: Sink> {
     sink: &'a mut K,
     /// Room for the line of a move. It is kept, since a new one would be cleared for each move.
     line: Line,
-    begun: Begun,
     failed: bool,
 }
 
@@ -56,7 +54,6 @@ impl<'a, K: Sink> Recorder<'a, K> {
         Recorder {
             sink,
             line: EMPTY,
-            begun: Begun::new(),
             failed: false,
         }
     }
@@ -69,7 +66,6 @@ impl<'a, K: Sink> Recorder<'a, K> {
         let Recorder {
             sink,
             line: _,
-            begun: _,
             failed: _,
         } = self;
         sink
@@ -89,24 +85,11 @@ impl<'a, K: Sink> Moves for Recorder<'a, K> {
     #[inline(always)] // where it is called the move is known, and then nothing asks which it is
     #[tactic(auto, using(crate::proofs::Growing::growing))]
     fn note(&mut self, m: Move) {
-        match m {
-            Move::At(line, kind) => {
-                let end = self.begun.begin(line, kind);
-                if !self.failed {
-                    match write_all(self.sink, &self.begun.text[..end]) {
-                        Ok(()) => {}
-                        Err(Failed) => self.failed = true,
-                    }
-                }
-            }
-            _ => {
-                let end = put_line(&mut self.line, &m);
-                if !self.failed {
-                    match write_all(self.sink, &self.line[..end]) {
-                        Ok(()) => {}
-                        Err(Failed) => self.failed = true,
-                    }
-                }
+        let end = put_line(&mut self.line, &m);
+        if !self.failed {
+            match write_all(self.sink, &self.line[..end]) {
+                Ok(()) => {}
+                Err(Failed) => self.failed = true,
             }
         }
     }

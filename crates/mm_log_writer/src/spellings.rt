@@ -80,7 +80,7 @@ fn few_byte(n: u32, i: usize) -> u8
 
 /// Writes a byte.
 #[inline(always)]
-pub(crate) fn put_byte(out: &mut Line, at: usize, byte: u8) -> usize
+fn put_byte(out: &mut Line, at: usize, byte: u8) -> usize
     requires { at < 80 }
     ensures text { take result out.new ≡ take at out.old ++ byte ∷ [] }
     ensures end { result ≡ at + 1 }
@@ -186,7 +186,7 @@ fn put_bytes(out: &mut Line, at: usize, bytes: &[u8]) -> usize
 /// A word and a number, of at most 10 digits.
 #[inline(always)]
 #[tactic(auto, using(mm_text::proofs::Lines::steps))]
-pub(crate) fn put_numbered(out: &mut Line, at: usize, word: &[u8], n: u32) -> usize
+fn put_numbered(out: &mut Line, at: usize, word: &[u8], n: u32) -> usize
     requires { at + length word.now + 11 ≤ 80 }
     ensures put { Puts out.old at out.new result (length word.now + 10) (numbered word.now n) }
 {
@@ -197,7 +197,7 @@ pub(crate) fn put_numbered(out: &mut Line, at: usize, word: &[u8], n: u32) -> us
 /// Some words.
 #[inline(always)]
 #[tactic(auto, using(mm_text::proofs::DigitCounts::joined))]
-pub(crate) fn put_words(out: &mut Line, at: usize, words: &[u8]) -> usize
+fn put_words(out: &mut Line, at: usize, words: &[u8]) -> usize
     requires { at + length words.now ≤ 80 }
     ensures put { Puts out.old at out.new result (length words.now) (λ b. words.now ++ b) }
 {
@@ -245,7 +245,7 @@ fn put_key(out: &mut Line, at: usize, key: Key) -> usize
 }
 
 #[inline(always)]
-pub(crate) fn put_kind(out: &mut Line, at: usize, kind: LineKind) -> usize
+fn put_kind(out: &mut Line, at: usize, kind: LineKind) -> usize
     requires { at + 52 ≤ 80 }
     ensures put { Puts out.old at out.new result 51 (kind_onto kind) }
     ensures in_range { IsKind kind }

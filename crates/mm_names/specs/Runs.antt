@@ -8,11 +8,10 @@ use Rattle.mm_names.specs.declared.endings.Ending.{Ending}
 use Rattle.mm_names.specs.declared.endings.Ending.TheVariants as ending
 use Rattle.mm_names.specs.Scripts.{script_of, spelled, IsScript}
 
--- the most bytes of a written file
+-- the most bytes of a written file, and the most lines of a script
 abbrev pub most_bytes : ℕ
 most_bytes = 100000000
 
--- the most lines of a script
 abbrev pub most_lines : ℕ
 most_lines = 1000000
 

@@ -11,7 +11,7 @@ pub mod Numbers
 pub mod Cursor
 pub use Field.{Bytes, Decimal, EachSpells, Exactly, Hex, Named, NamedOrDash, Spells}
 pub use Grammar.{IsLine, IsText, are_joined, device_field, direction_field, fields_of, flag_field}
-pub use Grammar.{is_machine, lies_in_page, most_lines, pid_field, tid_field}
+pub use Grammar.{lies_in_page, pid_field, tid_field}
 pub use Printed.{IsByte, IsInRange, IsWellFormed, print, printed, spaced_words}
 pub use Pieces.{is_access, is_memory, is_view, room, shown}
 pub use Keywords.{keyword_among, keywords, text_of}
