@@ -31,17 +31,17 @@ is_within _ = false
 
 -- the rows that come, where these fields of the row were read, and these bytes of the next field;
 -- what stands behind the last line feed is no row
-abbrev pub rows_from : Place → List Text → Text → Text → List (List Text)
-rows_from place row field [] = []
-rows_from place row field (c ∷ cs) =
-    if c == 34 then rows_from (behind_quote place) row (field ++ quote_in place) cs
-    else if is_within place then rows_from Quoted row (field ++ c ∷ []) cs
-    else if c == 44 then rows_from First (row ++ field ∷ []) [] cs
-    else if c == 10 then (row ++ field ∷ []) ∷ rows_from First [] [] cs
-    else rows_from Plain row (field ++ c ∷ []) cs
+abbrev pub csv_rows_from : Place → List Text → Text → Text → List (List Text)
+csv_rows_from place row field [] = []
+csv_rows_from place row field (c ∷ cs) =
+    if c == 34 then csv_rows_from (behind_quote place) row (field ++ quote_in place) cs
+    else if is_within place then csv_rows_from Quoted row (field ++ c ∷ []) cs
+    else if c == 44 then csv_rows_from First (row ++ field ∷ []) [] cs
+    else if c == 10 then (row ++ field ∷ []) ∷ csv_rows_from First [] [] cs
+    else csv_rows_from Plain row (field ++ c ∷ []) cs
 
-abbrev pub rows_of : Text → List (List Text)
-rows_of text = rows_from First [] [] text
+abbrev pub csv_rows_of : Text → List (List Text)
+csv_rows_of text = csv_rows_from First [] [] text
 
 -- each row has a field
 abbrev pub AreSome : List (List Text) → Type 0

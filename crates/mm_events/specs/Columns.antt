@@ -74,14 +74,14 @@ page_of_key None = None
 page_of_key (Some (Private p v)) = Some (record { pid = p; vpn = v })
 page_of_key (Some (Shared a i)) = None
 
-abbrev pub page_at : Option Place → Option Key → Option Place
-page_at (Some place) k = Some place
-page_at None k = page_of_key k
+abbrev pub page_or_key_page : Option Place → Option Key → Option Place
+page_or_key_page (Some place) k = Some place
+page_or_key_page None k = page_of_key k
 
 -- the virtual page that a move is about: the place that becomes valid or ends, or else that of a
 -- private page; a shared page has none of its own
-abbrev pub page_of : Facts → Option Place
-page_of x = page_at x.place x.key
+abbrev pub page_of_move : Facts → Option Place
+page_of_move x = page_or_key_page x.place x.key
 
 -- the process that a line is of
 abbrev pub line_process : LineKind → Option ℕ
@@ -93,15 +93,15 @@ line_process (kind.Trim pid) = Some pid.0
 line_process _ = None
 
 -- that of the page, or else that of the line
-abbrev pub process_in : Option Place → LineKind → Option ℕ
-process_in (Some place) k = Some place.pid.0
-process_in None k = line_process k
+abbrev pub process_or_line : Option Place → LineKind → Option ℕ
+process_or_line (Some place) k = Some place.pid.0
+process_or_line None k = line_process k
 
-abbrev pub process_of : Facts → LineKind → Option ℕ
-process_of x k = process_in (page_of x) k
+abbrev pub process_of_move : Facts → LineKind → Option ℕ
+process_of_move x k = process_or_line (page_of_move x) k
 
-abbrev pub page_number : Option Place → Option ℕ
-page_number page = option_map (λ place. place.vpn.0) page
+abbrev pub page_column : Option Place → Option ℕ
+page_column page = option_map (λ place. place.vpn.0) page
 
 -- in decimal; empty where there is none
 abbrev pub option_text : Option ℕ → Text
@@ -109,15 +109,15 @@ option_text None = []
 option_text (Some n) = decimal n
 
 -- the address of a page of user space, in hexadecimal
-abbrev pub address_text : Option ℕ → Text
-address_text None = []
-address_text (Some vpn) = if nat_lt vpn (2 ^ 20) then hex_short (vpn * 4096) else []
+abbrev pub address_column : Option ℕ → Text
+address_column None = []
+address_column (Some vpn) = if nat_lt vpn (2 ^ 20) then hex_short (vpn * 4096) else []
 
 -- its process, its number, its address
 abbrev pub page_columns : Facts → LineKind → List Text
 page_columns x k =
-    option_text (process_of x k) ∷ option_text (page_number (page_of x))
-    ∷ address_text (page_number (page_of x)) ∷ []
+    option_text (process_of_move x k) ∷ option_text (page_column (page_of_move x))
+    ∷ address_column (page_column (page_of_move x)) ∷ []
 
 -- ---- the frame
 
@@ -125,8 +125,8 @@ abbrev pub key_field : Option Key → Text
 key_field None = []
 key_field (Some k) = key_text k
 
-abbrev pub frame_number : Option Frame → Option ℕ
-frame_number frame = option_map (λ f. f.0) frame
+abbrev pub frame_column : Option Frame → Option ℕ
+frame_column frame = option_map (λ f. f.0) frame
 
 abbrev pub state_field : Option FrameState → Text
 state_field None = []
@@ -138,5 +138,5 @@ state_in l frame = option_map (λ f. state_of l f.0) frame
 -- the page's key, its frame, and the frame's state before the move and after it
 abbrev pub frame_columns : Facts → Option FrameState → FrameLife → List Text
 frame_columns x was after =
-    key_field x.key ∷ option_text (frame_number x.frame) ∷ state_field was
+    key_field x.key ∷ option_text (frame_column x.frame) ∷ state_field was
     ∷ state_field (state_in after x.frame) ∷ []

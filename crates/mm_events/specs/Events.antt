@@ -6,10 +6,10 @@ use Rattle.mm_move_rules.specs.{FrameLife, unstarted, after_move}
 use Rattle.mm_move_classes.specs.{MarksOf, no_marks, marks_after, class_of, next_of, Class}
 use Rattle.mm_csv.specs.{csv_row}
 use Rattle.mm_sentences.specs.{facts_of}
-use Rattle.mm_transcripts.specs.{AgesOf, no_ages, ages_then, reason_then, Reason}
+use Rattle.mm_transcripts.specs.{AgesOf, no_ages_known, ages_then, reason_then, Reason}
 use Rattle.mm_log_walk.specs.{Beside}
 use Rattle.mm_events.specs.Columns.{class_text, frame_columns, kind_word, page_columns, state_in}
-use Rattle.mm_events.specs.Reasons.{reason_text}
+use Rattle.mm_events.specs.Reasons.{reason_column}
 use Rattle.mm_events.specs.declared.rows.Noted.{Noted}
 
 abbrev pub event_head : Text
@@ -25,15 +25,15 @@ noted_as l m reason = record {
   reason = reason;
 }
 
-abbrev pub noted : Beside → AgesOf → FrameLife → Move → Noted
-noted b a l m = noted_as l m (reason_then b a l m)
+abbrev pub event_noted : Beside → AgesOf → FrameLife → Move → Noted
+event_noted b a l m = noted_as l m (reason_then b a l m)
 
 -- the fields of a move of this class, by the state before it and the one after it
 abbrev pub event_fields : Noted → Class → FrameLife → List Text
 event_fields x c after =
     decimal x.line ∷ kind_word x.kind ∷ class_text c
     ∷ (page_columns x.facts x.kind ++ (frame_columns x.facts x.was after
-    ++ reason_text c x.facts x.reason ∷ []))
+    ++ reason_column c x.facts x.reason ∷ []))
 
 abbrev pub event_row : Noted → Class → FrameLife → Text
 event_row x c after = csv_row (event_fields x c after)
@@ -47,12 +47,13 @@ class_row x (Some c) after = event_row x c after
 abbrev pub events_from : Beside → FrameLife → MarksOf → AgesOf → Option Move → List Move → Text
 events_from b l v a before [] = []
 events_from b l v a before (m ∷ ms) =
-    class_row (noted b a l m) (class_of l v before m (next_of ms)) (after_move l m)
+    class_row (event_noted b a l m) (class_of l v before m (next_of ms)) (after_move l m)
     ++ events_from b (after_move l m) (marks_after v m) (ages_then b m a) (Some m) ms
 
 -- the head, and the rows of all moves, whether the log ends well or not
 abbrev pub events : Option (List Text) → Option (List Text) → Bool → List Move → Text
 events script answers whole moves =
     event_head
-    ++ events_from (record { script = script; answers = answers }) unstarted no_marks no_ages None
+    ++ events_from (record { script = script; answers = answers }) unstarted no_marks no_ages_known
+    None
     moves

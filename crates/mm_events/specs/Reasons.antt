@@ -9,45 +9,45 @@ use Rattle.mm_sentences.specs.{home_text}
 use Rattle.mm_transcripts.specs.{age_words, process_words, Reason}
 
 -- the words of a class; behind them stands more of some
-abbrev pub words_of : Class → Text
-words_of class.DemandZeroAdded = codes "demand-zero"
-words_of class.FilePageAdded = codes "file "
-words_of class.CopyOnWriteFault = []
-words_of class.Deleted = []
-words_of class.DeletedInFlight = codes "its I/O is in flight"
-words_of class.ZeroedByThread = codes "zero page thread"
-words_of class.ZeroedOnDemand = codes "on demand"
-words_of class.StandbyRepurposed = codes "now only in "
-words_of class.DemandZeroFault = []
-words_of class.FrameForCopy = []
-words_of class.HardFaultFromPagingFile = codes "paging-file "
-words_of class.HardFaultFromFile = codes "file "
-words_of class.PageInDone = []
-words_of class.CollidedFault = codes "begun by an earlier line"
-words_of class.PageInDoneDeleted = codes "page deleted meanwhile"
-words_of class.PageInFailed = []
-words_of class.PageInFailedDeleted = codes "page deleted meanwhile"
-words_of class.MadeValid = []
-words_of class.FirstUse = codes "read in by an earlier line"
-words_of class.SoftFaultFromStandby = codes "standby list"
-words_of class.SoftFaultFromModified = codes "modified list"
-words_of class.SoftFaultInTransition = codes "being written"
-words_of class.SoftFaultShared = codes "valid elsewhere"
-words_of class.PlaceEnds = codes "its place ends"
-words_of class.Trimmed = codes "trim"
-words_of class.TrimmedForWantOfFrames = codes "want of frames"
-words_of class.Replaced = codes "working set is full"
-words_of class.MakesWayForCopy = codes "makes way for the copy"
-words_of class.FirstWrite = []
-words_of class.FirstWriteInFlight = codes "while it is being written"
-words_of class.WriteByWriter = codes "modified page writer, to "
-words_of class.WriteForWantOfFrames = codes "want of frames, to "
-words_of class.WriteByFlush = codes "flush, to "
-words_of class.WriteDone = []
-words_of class.WriteDoneChanged = codes "changed meanwhile"
-words_of class.WriteDoneDeleted = codes "page deleted meanwhile"
-words_of class.WriteFailed = []
-words_of class.WriteFailedDeleted = codes "page deleted meanwhile"
+abbrev pub class_words : Class → Text
+class_words class.DemandZeroAdded = codes "demand-zero"
+class_words class.FilePageAdded = codes "file "
+class_words class.CopyOnWriteFault = []
+class_words class.Deleted = []
+class_words class.DeletedInFlight = codes "its I/O is in flight"
+class_words class.ZeroedByThread = codes "zero page thread"
+class_words class.ZeroedOnDemand = codes "on demand"
+class_words class.StandbyRepurposed = codes "now only in "
+class_words class.DemandZeroFault = []
+class_words class.FrameForCopy = []
+class_words class.HardFaultFromPagingFile = codes "paging-file "
+class_words class.HardFaultFromFile = codes "file "
+class_words class.PageInDone = []
+class_words class.CollidedFault = codes "begun by an earlier line"
+class_words class.PageInDoneDeleted = codes "page deleted meanwhile"
+class_words class.PageInFailed = []
+class_words class.PageInFailedDeleted = codes "page deleted meanwhile"
+class_words class.MadeValid = []
+class_words class.FirstUse = codes "read in by an earlier line"
+class_words class.SoftFaultFromStandby = codes "standby list"
+class_words class.SoftFaultFromModified = codes "modified list"
+class_words class.SoftFaultInTransition = codes "being written"
+class_words class.SoftFaultShared = codes "valid elsewhere"
+class_words class.PlaceEnds = codes "its place ends"
+class_words class.Trimmed = codes "trim"
+class_words class.TrimmedForWantOfFrames = codes "want of frames"
+class_words class.Replaced = codes "working set is full"
+class_words class.MakesWayForCopy = codes "makes way for the copy"
+class_words class.FirstWrite = []
+class_words class.FirstWriteInFlight = codes "while it is being written"
+class_words class.WriteByWriter = codes "modified page writer, to "
+class_words class.WriteForWantOfFrames = codes "want of frames, to "
+class_words class.WriteByFlush = codes "flush, to "
+class_words class.WriteDone = []
+class_words class.WriteDoneChanged = codes "changed meanwhile"
+class_words class.WriteDoneDeleted = codes "page deleted meanwhile"
+class_words class.WriteFailed = []
+class_words class.WriteFailedDeleted = codes "page deleted meanwhile"
 
 -- the block of a file's page that comes to be
 abbrev pub block_words : Option Block → Text
@@ -76,5 +76,5 @@ behind_words class.Replaced x r = replaced_words r
 behind_words class.TrimmedForWantOfFrames x r = trimmed_words r
 behind_words _ x r = []
 
-abbrev pub reason_text : Class → Facts → Option Reason → Text
-reason_text c x r = words_of c ++ behind_words c x r
+abbrev pub reason_column : Class → Facts → Option Reason → Text
+reason_column c x r = class_words c ++ behind_words c x r

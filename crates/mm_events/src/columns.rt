@@ -1,8 +1,8 @@
 ghost use Rattle.std.specs.Prelude.{◌≡◌, ◌*◌, ◌^◌, ◌<◌, ◌++◌, OnOk};
 ghost use Rattle.mm_csv.specs.{csv_next, csv_nexts};
 ghost use Rattle.mm_replay.specs.Standing.{life as life_of};
-ghost use Rattle.mm_events.specs.{page_of_key, page_at, page_of, line_process, process_in, process_of, page_number, option_text, address_text};
-ghost use Rattle.mm_events.specs.{page_columns, key_field, frame_number, state_field, state_in, frame_columns};
+ghost use Rattle.mm_events.specs.{page_of_key, page_or_key_page, page_of_move, line_process, process_or_line, process_of_move, page_column, option_text, address_column};
+ghost use Rattle.mm_events.specs.{page_columns, key_field, frame_column, state_field, state_in, frame_columns};
 
 use mm_csv::put_next;
 use mm_replay::Life;
@@ -21,8 +21,8 @@ fn page_of_key(key: Option<Key>) -> Option<Place>
 }
 
 /// The virtual page that a move is about.
-fn page_of(facts: &Facts) -> Option<Place>
-    ensures { result ≡ page_of facts.now }
+fn page_of_move(facts: &Facts) -> Option<Place>
+    ensures { result ≡ page_of_move facts.now }
 {
     match facts.place {
         Some(place) => Some(place),
@@ -45,8 +45,8 @@ fn line_process(kind: LineKind) -> Option<u32>
 }
 
 /// The process of a page, or else of a line.
-fn process_in(page: Option<Place>, kind: LineKind) -> Option<u32>
-    ensures { result ≡ process_in page kind }
+fn process_or_line(page: Option<Place>, kind: LineKind) -> Option<u32>
+    ensures { result ≡ process_or_line page kind }
 {
     match page {
         Some(place) => Some(u32::from(place.pid.0)),
@@ -54,8 +54,8 @@ fn process_in(page: Option<Place>, kind: LineKind) -> Option<u32>
     }
 }
 
-fn page_number(page: Option<Place>) -> Option<u32>
-    ensures { result ≡ page_number page }
+fn page_column(page: Option<Place>) -> Option<u32>
+    ensures { result ≡ page_column page }
 {
     match page {
         Some(place) => Some(place.vpn.0),
@@ -63,8 +63,8 @@ fn page_number(page: Option<Place>) -> Option<u32>
     }
 }
 
-fn frame_number(frame: Option<Frame>) -> Option<u32>
-    ensures { result ≡ frame_number frame }
+fn frame_column(frame: Option<Frame>) -> Option<u32>
+    ensures { result ≡ frame_column frame }
 {
     match frame {
         Some(frame) => Some(frame.0),
@@ -87,7 +87,7 @@ fn put_number(n: Option<u32>, text: &mut Vec<u8>) -> Result<(), NoMemory>
 /// Writes the address of a page of this number into an empty line, where it is one of user space.
 #[tactic(auto, using(mm_text::proofs::Spelled::lengths))]
 fn address_of(page: Option<u32>) -> LineBuf
-    ensures { result ≡ address_text page }
+    ensures { result ≡ address_column page }
 {
     let mut line = LineBuf::new();
     if let Some(page) = page {
@@ -104,10 +104,10 @@ pub(crate) fn put_page(facts: &Facts, kind: LineKind, text: &mut Vec<u8>) -> Res
     ensures { OnOk result (text.new.items
         ≡ text.old.items ++ csv_nexts (page_columns facts.now kind)) }
 {
-    let page = page_of(facts);
-    put_number(process_in(page, kind), text)?;
-    put_number(page_number(page), text)?;
-    put_next(address_of(page_number(page)).as_slice(), text)
+    let page = page_of_move(facts);
+    put_number(process_or_line(page, kind), text)?;
+    put_number(page_column(page), text)?;
+    put_next(address_of(page_column(page)).as_slice(), text)
 }
 
 /// Writes a key, if there is one.
@@ -176,7 +176,7 @@ pub(crate) fn put_frame(
         ≡ text.old.items ++ csv_nexts (frame_columns facts.now was (life_of after.now))) }
 {
     put_key_next(facts.key, room, text)?;
-    put_number(frame_number(facts.frame), text)?;
+    put_number(frame_column(facts.frame), text)?;
     put_state_next(was, room, text)?;
     put_state_next(state_in(after, facts.frame), room, text)
 }

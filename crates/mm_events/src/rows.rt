@@ -3,9 +3,9 @@ ghost use Rattle.mm_types.specs.{decimal};
 ghost use Rattle.mm_csv.specs.{csv_field, csv_next};
 ghost use Rattle.mm_replay.specs.Standing.{life as life_of};
 ghost use Rattle.mm_events.specs.Columns.{class_text, kind_word};
-ghost use Rattle.mm_events.specs.Reasons.{reason_text};
+ghost use Rattle.mm_events.specs.Reasons.{reason_column};
 ghost use Rattle.mm_events.specs.Events.{noted_as, event_row, class_row};
-ghost use Rattle.mm_events.specs.EventRest.{waiting_row};
+ghost use Rattle.mm_events.specs.EventRest.{waiting_event_row};
 
 use crate::columns::{put_frame, put_page, state_in};
 use crate::words::{class_text, kind_word, put_reason};
@@ -61,7 +61,7 @@ fn put_front(x: &Noted, class: Class, text: &mut Vec<u8>) -> Result<(), NoMemory
 #[tactic(auto, using(mm_sentences::proofs::Joined::joined))]
 fn put_back(x: &Noted, class: Class, room: &mut Vec<u8>, text: &mut Vec<u8>) -> Result<(), NoMemory>
     ensures { OnOk result (text.new.items ≡ text.old.items
-        ++ (csv_next (reason_text class x.now.facts x.now.reason) ++ 10 ∷ [])) }
+        ++ (csv_next (reason_column class x.now.facts x.now.reason) ++ 10 ∷ [])) }
 {
     room.clear();
     put_reason(class, &x.facts, &x.reason, room)?;
@@ -114,7 +114,7 @@ pub(crate) fn put_waiting(
     text: &mut Vec<u8>,
 ) -> Result<(), NoMemory>
     ensures { OnOk result (text.new.items
-        ≡ text.old.items ++ waiting_row waiting.now classed (life_of after.now)) }
+        ≡ text.old.items ++ waiting_event_row waiting.now classed (life_of after.now)) }
 {
     match (waiting, classed) {
         (Some(x), Some(classed)) => put_class_row(x, classed.class, after, room, text),

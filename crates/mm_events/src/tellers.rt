@@ -1,7 +1,7 @@
 ghost use Rattle.std.specs.Prelude.{◌≡◌, Bool, List};
 ghost use Rattle.mm_types.specs.{Move};
 ghost use Rattle.mm_move_rules.specs.{unstarted};
-ghost use Rattle.mm_sentences.specs.{why_text};
+ghost use Rattle.mm_sentences.specs.{why_not};
 ghost use Rattle.mm_events.specs.Events.{events};
 ghost use Rattle.mm_events.specs.EventRest.{events_rest};
 
@@ -61,7 +61,7 @@ impl<'a> Teller for EventTeller<'a> {
 
     ghost counted = { λ t. 0 };
 
-    ghost why = { why_text };
+    ghost why = { why_not };
 
     fn take(&mut self, life: &Life, m: &Move, text: &mut Vec<u8>) -> Result<(), NoMemory> {
         put_head_left(self.begun, HEAD, text)?;

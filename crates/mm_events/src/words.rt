@@ -1,6 +1,6 @@
 ghost use Rattle.std.specs.Prelude.{◌≡◌, ◌++◌, OnOk, codes};
 ghost use Rattle.mm_sentences.specs.{home_text};
-ghost use Rattle.mm_events.specs.{class_text, kind_word, words_of, block_words, replaced_words, trimmed_words, behind_words, reason_text};
+ghost use Rattle.mm_events.specs.{class_text, kind_word, class_words, block_words, replaced_words, trimmed_words, behind_words, reason_column};
 
 use mm_move_classes::Class;
 use mm_sentences::{Facts, put_counted, put_words};
@@ -59,8 +59,8 @@ pub(crate) fn class_text(class: Class) -> &'static [u8]
 }
 
 /// The words of a class in a reason.
-fn words_of(class: Class) -> &'static [u8]
-    ensures { result.now ≡ words_of class }
+fn class_words(class: Class) -> &'static [u8]
+    ensures { result.now ≡ class_words class }
 {
     match class {
         Class::DemandZeroAdded => b"demand-zero",
@@ -174,8 +174,8 @@ pub(crate) fn put_reason(
     text: &mut Vec<u8>,
 ) -> Result<(), NoMemory>
     ensures { OnOk result (text.new.items ≡ text.old.items
-        ++ reason_text class facts.now reason.now) }
+        ++ reason_column class facts.now reason.now) }
 {
-    put_words(words_of(class), text)?;
+    put_words(class_words(class), text)?;
     put_behind(class, facts, reason, text)
 }

@@ -5,7 +5,7 @@ use Rattle.std.specs.List.{list_all}
 use Rattle.mm_types.specs.{Text}
 use Rattle.mm_types.proofs.{both, parts, differ}
 use Rattle.mm_move_classes.specs.{digits_of, number_text, numbers_text, is_plain_in_html}
-use Rattle.mm_observations.specs.{good_row, region_letter, region_numbers, seen_data, line_data, row_data, after_row, behind, if_row, packed_from}
+use Rattle.mm_observations.specs.{good_row, region_letter, region_numbers, seen_data, line_data, row_data, after_row, packed_behind, if_row, packed_from}
 use Rattle.mm_observations.specs.{Before, Row, Seen}
 use Rattle.mm_observations.specs.declared.run_lines.RunLines.{RunLines}
 use Rattle.mm_observations.specs.declared.rows.Seen.TheVariants as seen
@@ -65,7 +65,7 @@ abbrev IsPlain : Result Text ℕ → Type 0
 IsPlain (Ok text) = Plain text
 IsPlain (Err n) = Unit {0}
 
-plain_behind : (a : Text) (r : Result Text ℕ) → Plain a → IsPlain r → IsPlain (behind a r)
+plain_behind : (a : Text) (r : Result Text ℕ) → Plain a → IsPlain r → IsPlain (packed_behind a r)
 plain_behind a (Ok t) p q = plain_more a t p q
 plain_behind a (Err n) p q = tt
 
@@ -73,7 +73,7 @@ plain_from : (run : RunLines) (b : Before) (n : ℕ) (rows : List Text) → IsPl
 plain_from run b n [] = refl
 plain_from run b n (t ∷ ts) = pick (good_row run b.line t) (λ next. plain_from run next (n + 1) ts)
   where
-    pick : (o : Option Row) → ((next : Before) → IsPlain (packed_from run next (n + 1) ts)) → IsPlain (if_row n o (λ row. behind (row_data b row) (packed_from run (after_row b row) (n + 1) ts)))
+    pick : (o : Option Row) → ((next : Before) → IsPlain (packed_from run next (n + 1) ts)) → IsPlain (if_row n o (λ row. packed_behind (row_data b row) (packed_from run (after_row b row) (n + 1) ts)))
     pick None more = tt
     pick (Some row) more = plain_behind (row_data b row) (packed_from run (after_row b row) (n + 1) ts) (plain_row b row) (more (after_row b row))
 

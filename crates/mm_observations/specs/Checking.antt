@@ -27,8 +27,8 @@ is_within_user r =
     && nat_le (r.base + r.size) 0x7FFF0000
 
 -- as `query` answers a free stretch
-abbrev pub is_free : QueryInfo → Bool
-is_free r =
+abbrev pub is_free_region : QueryInfo → Bool
+is_free_region r =
     (r.state == 0x10000) && (r.kind == 0) && (r.prot == 1) && (r.alloc_base == 0)
     && (r.alloc_prot == 0)
 
@@ -38,14 +38,15 @@ is_allocated r =
     ((r.kind == 0x20000) || (r.kind == 0x40000)) && (r.alloc_base % 4096 == 0)
     && nat_le 0x10000 r.alloc_base && nat_le r.alloc_base r.base && is_protection r.alloc_prot
 
-abbrev pub is_reserved : QueryInfo → Bool
-is_reserved r = (r.state == 0x2000) && (r.prot == 0) && is_allocated r
+abbrev pub is_reserved_region : QueryInfo → Bool
+is_reserved_region r = (r.state == 0x2000) && (r.prot == 0) && is_allocated r
 
-abbrev pub is_committed : QueryInfo → Bool
-is_committed r = (r.state == 0x1000) && is_protection r.prot && is_allocated r
+abbrev pub is_committed_region : QueryInfo → Bool
+is_committed_region r = (r.state == 0x1000) && is_protection r.prot && is_allocated r
 
 abbrev pub is_region : QueryInfo → Bool
-is_region r = is_within_user r && (is_free r || is_reserved r || is_committed r)
+is_region r = is_within_user r
+    && (is_free_region r || is_reserved_region r || is_committed_region r)
 
 -- it can have been seen after this line
 abbrev pub is_good_seen : RunLines → ℕ → Seen → Bool

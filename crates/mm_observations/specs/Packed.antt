@@ -21,20 +21,20 @@ open_row (c ∷ cs) = [] ∷ []
 
 -- the rows, each without its line feed and one carriage return before it, where these bytes of the
 -- first were read
-abbrev pub rows_from : Text → Text → List Text
-rows_from row [] = open_row row
-rows_from row (c ∷ cs) =
-    if c == 10 then without_return row ∷ rows_from [] cs else rows_from (row ++ c ∷ []) cs
+abbrev pub file_rows_from : Text → Text → List Text
+file_rows_from row [] = open_row row
+file_rows_from row (c ∷ cs) =
+    if c == 10 then without_return row ∷ file_rows_from [] cs else file_rows_from (row ++ c ∷ []) cs
 
-abbrev pub rows_of : Text → List Text
-rows_of bytes = rows_from [] bytes
+abbrev pub file_rows : Text → List Text
+file_rows bytes = file_rows_from [] bytes
 
 -- ---- packed
 
 -- a text, and what is packed behind it
-abbrev pub behind : Text → Result Text ℕ → Result Text ℕ
-behind text (Ok more) = Ok (text ++ more)
-behind text (Err n) = Err n
+abbrev pub packed_behind : Text → Result Text ℕ → Result Text ℕ
+packed_behind text (Ok more) = Ok (text ++ more)
+packed_behind text (Err n) = Err n
 
 -- what follows from a good row; the number of one that is not good
 abbrev pub if_row : ℕ → Option Row → (Row → Result Text ℕ) → Result Text ℕ
@@ -46,13 +46,13 @@ abbrev pub packed_from : RunLines → Before → ℕ → List Text → Result Te
 packed_from run b n [] = Ok (10 ∷ [])
 packed_from run b n (t ∷ ts) =
     if_row n (good_row run b.line t)
-    (λ row. behind (row_data b row) (packed_from run (after_row b row) (n + 1) ts))
+    (λ row. packed_behind (row_data b row) (packed_from run (after_row b row) (n + 1) ts))
 
 -- the packed text, or the number of the first row that is not good
 abbrev pub packed : RunLines → Text → Result Text ℕ
-packed run bytes = packed_from run none_before 1 (rows_of bytes)
+packed run bytes = packed_from run none_before 1 (file_rows bytes)
 
 -- a file was refused: a row of it, by its number, or for want of memory
-abbrev pub Refuses : Result Text ℕ → PackFault → Type 0
-Refuses wanted (fault.Row n) = wanted ≡ Err n
-Refuses wanted fault.NoMemory = Unit {0}
+abbrev pub RefusesFile : Result Text ℕ → PackFault → Type 0
+RefusesFile wanted (fault.Row n) = wanted ≡ Err n
+RefusesFile wanted fault.NoMemory = Unit {0}

@@ -2,7 +2,7 @@
 -- web/README.md, "Packed observations".
 use Rattle.std.specs.Prelude.{ℕ, ◌+◌, ◌-◌, ◌*◌, ◌/◌, nat_le, ◌==◌, if◌then◌else◌, List, [], ◌∷◌}
 use Rattle.std.specs.Prelude.{◌++◌}
-use Rattle.mm_types.specs.{Text, QueryInfo}
+use Rattle.mm_types.specs.{Text, QueryInfo, page_of}
 use Rattle.mm_move_classes.specs.{number_text, numbers_text}
 use Rattle.mm_observations.specs.declared.packing.Before.{Before}
 use Rattle.mm_observations.specs.declared.rows.Row.{Row}
@@ -10,9 +10,6 @@ use Rattle.mm_observations.specs.declared.rows.Seen.{Seen}
 use Rattle.mm_observations.specs.declared.rows.Seen.TheVariants as seen
 
 -- ---- numbers
-
-abbrev pub page_of : ℕ → ℕ
-page_of address = address / 4096
 
 -- the step from one page to another: even forwards, odd backwards
 abbrev pub step_number : ℕ → ℕ → ℕ
@@ -60,9 +57,9 @@ abbrev pub none_before : Before
 none_before = record { line = 0; end = 0 }
 
 -- the page behind the last region
-abbrev pub end_after : ℕ → Seen → ℕ
-end_after end (seen.Charge charged limit) = end
-end_after end (seen.Region pid r) = page_of r.base + page_of r.size
+abbrev pub end_of_seen : ℕ → Seen → ℕ
+end_of_seen end (seen.Charge charged limit) = end
+end_of_seen end (seen.Region pid r) = page_of r.base + page_of r.size
 
 abbrev pub after_row : Before → Row → Before
-after_row b row = record { line = row.line; end = end_after b.end row.seen }
+after_row b row = record { line = row.line; end = end_of_seen b.end row.seen }

@@ -15,18 +15,18 @@ number_before None ns = None
 number_before (Some n) ns = option_map (λ xs. n ∷ xs) ns
 
 -- so many numbers, a word each, and no word behind them
-abbrev pub numbers_in : ℕ → List Word → Option (List ℕ)
-numbers_in zero [] = Some []
-numbers_in zero (w ∷ ws) = None
-numbers_in (suc n) [] = None
-numbers_in (suc n) (w ∷ ws) = number_before (number_of w.text) (numbers_in n ws)
+abbrev pub row_numbers : ℕ → List Word → Option (List ℕ)
+row_numbers zero [] = Some []
+row_numbers zero (w ∷ ws) = None
+row_numbers (suc n) [] = None
+row_numbers (suc n) (w ∷ ws) = number_before (number_of w.text) (row_numbers n ws)
 
-abbrev pub charge_of : List ℕ → Seen
-charge_of ns = seen.Charge (slice_index_or ns 0 0) (slice_index_or ns 1 0)
+abbrev pub seen_charge : List ℕ → Seen
+seen_charge ns = seen.Charge (slice_index_or ns 0 0) (slice_index_or ns 1 0)
 
 -- of the process first
-abbrev pub region_of : List ℕ → Seen
-region_of ns =
+abbrev pub seen_region : List ℕ → Seen
+seen_region ns =
     seen.Region (slice_index_or ns 0 0) (record {
       base = slice_index_or ns 1 0;
       size = slice_index_or ns 2 0;
@@ -40,8 +40,8 @@ region_of ns =
 -- what the words behind this one are
 abbrev pub seen_in : Text → List Word → Option Seen
 seen_in word ws =
-    if bytes_eq word (codes "charge") then option_map charge_of (numbers_in 2 ws)
-    else if bytes_eq word (codes "region") then option_map region_of (numbers_in 8 ws)
+    if bytes_eq word (codes "charge") then option_map seen_charge (row_numbers 2 ws)
+    else if bytes_eq word (codes "region") then option_map seen_region (row_numbers 8 ws)
     else None
 
 -- this was seen after this line

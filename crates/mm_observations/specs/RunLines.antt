@@ -10,18 +10,18 @@ use Rattle.mm_observations.specs.declared.run_lines.RunLines.{RunLines}
 
 -- ---- the process that a line makes
 
-abbrev pub first_of : List Word → Text
-first_of [] = []
-first_of (w ∷ ws) = w.text
+abbrev pub leading_text : List Word → Text
+leading_text [] = []
+leading_text (w ∷ ws) = w.text
 
 -- of a line of at most 256 bytes, as those of scripts and answers are
-abbrev pub first_word : Text → Text
-first_word line = if nat_le (length line) 256 then first_of (words_of line) else []
+abbrev pub leading_word : Text → Text
+leading_word line = if nat_le (length line) 256 then leading_text (words_of line) else []
 
 -- behind its answers a run that ended early tells a line that is none or too long
 abbrev pub is_answer : Text → Bool
 is_answer text =
-    not (bytes_eq (first_word text) (codes "bad") || bytes_eq (first_word text) (codes "too"))
+    not (bytes_eq (leading_word text) (codes "bad") || bytes_eq (leading_word text) (codes "too"))
 
 -- `ok` and a number
 abbrev pub number_answered : Text → Option ℕ
@@ -31,7 +31,7 @@ number_answered _ = None
 
 abbrev pub process_made : Text → Text → Option ℕ
 process_made line answer =
-    if bytes_eq (first_word line) (codes "process") then number_answered answer else None
+    if bytes_eq (leading_word line) (codes "process") then number_answered answer else None
 
 -- ---- a run
 
@@ -52,13 +52,13 @@ run_after run line answer =
     } else run
 
 -- the lines of a script that have answers
-abbrev pub run_from : RunLines → List Text → List Text → RunLines
-run_from run (line ∷ lines) (answer ∷ answers) =
-    run_from (run_after run line answer) lines answers
-run_from run _ _ = run
+abbrev pub run_lines_from : RunLines → List Text → List Text → RunLines
+run_lines_from run (line ∷ lines) (answer ∷ answers) =
+    run_lines_from (run_after run line answer) lines answers
+run_lines_from run _ _ = run
 
 abbrev pub run_lines : List Text → List Text → RunLines
-run_lines script answers = run_from no_lines script answers
+run_lines script answers = run_lines_from no_lines script answers
 
 -- made at a line up to this one
 abbrev pub is_made_by : ℕ → Option ℕ → Bool

@@ -1,5 +1,5 @@
 ghost use Rattle.std.specs.Prelude.{◌≡◌};
-ghost use Rattle.mm_observations.specs.{is_plain_protection, is_protection, is_within_user, is_free, is_allocated, is_reserved, is_committed};
+ghost use Rattle.mm_observations.specs.{is_plain_protection, is_protection, is_within_user, is_free_region, is_allocated, is_reserved_region, is_committed_region};
 ghost use Rattle.mm_observations.specs.{is_region, is_good_seen, is_good_row, good_row};
 
 use crate::reading::parse_row;
@@ -59,8 +59,8 @@ fn is_within_user(r: &QueryInfo) -> bool
         && u64::from(r.base) + u64::from(r.size) <= u64::from(END_OF_USER)
 }
 
-fn is_free(r: &QueryInfo) -> bool
-    ensures { result ≡ is_free r.now }
+fn is_free_region(r: &QueryInfo) -> bool
+    ensures { result ≡ is_free_region r.now }
 {
     r.state == FREE && r.kind == 0 && r.prot == NOACCESS && r.alloc_base == 0 && r.alloc_prot == 0
 }
@@ -76,14 +76,14 @@ fn is_allocated(r: &QueryInfo) -> bool
         && is_protection(r.alloc_prot)
 }
 
-fn is_reserved(r: &QueryInfo) -> bool
-    ensures { result ≡ is_reserved r.now }
+fn is_reserved_region(r: &QueryInfo) -> bool
+    ensures { result ≡ is_reserved_region r.now }
 {
     r.state == RESERVED && r.prot == 0 && is_allocated(r)
 }
 
-fn is_committed(r: &QueryInfo) -> bool
-    ensures { result ≡ is_committed r.now }
+fn is_committed_region(r: &QueryInfo) -> bool
+    ensures { result ≡ is_committed_region r.now }
 {
     r.state == COMMITTED && is_protection(r.prot) && is_allocated(r)
 }
@@ -91,7 +91,7 @@ fn is_committed(r: &QueryInfo) -> bool
 fn is_region(r: &QueryInfo) -> bool
     ensures { result ≡ is_region r.now }
 {
-    is_within_user(r) && (is_free(r) || is_reserved(r) || is_committed(r))
+    is_within_user(r) && (is_free_region(r) || is_reserved_region(r) || is_committed_region(r))
 }
 
 /// Whether this can have been seen after a line of the run.

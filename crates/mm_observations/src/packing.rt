@@ -1,7 +1,8 @@
 ghost use Rattle.std.specs.Prelude.{◌≡◌, ◌+◌, ◌≤◌, ◌++◌, ◌∷◌, length};
 ghost use Rattle.mm_move_classes.specs.{numbers_text};
-ghost use Rattle.mm_observations.specs.Packing.{page_of, step_number, region_letter, place_numbers, allocation_numbers, protection_numbers};
+ghost use Rattle.mm_observations.specs.Packing.{step_number, region_letter, place_numbers, allocation_numbers, protection_numbers};
 ghost use Rattle.mm_observations.specs.Packing.{line_data, seen_data, row_data, after_row, none_before};
+ghost use Rattle.mm_types.specs.{page_of};
 
 use crate::checking::{COMMITTED, FREE, PRIVATE, RESERVED};
 use crate::rows::{Row, Seen};

@@ -1,5 +1,5 @@
 ghost use Rattle.std.specs.Prelude.{◌≡◌, MatchOption, length, Some, None, if◌then◌else◌, option_map};
-ghost use Rattle.mm_observations.specs.{parse_row, seen_in, numbers_in, charge_of, region_of, TakesNumber, HasNoNumber};
+ghost use Rattle.mm_observations.specs.{parse_row, seen_in, row_numbers, seen_charge, seen_region, TakesFirstNumber, HasNoNumber};
 
 use crate::rows::{Row, Seen};
 use mm_script::is_text;
@@ -14,7 +14,7 @@ fn next_number(line: &[u8], words: &mut Words<'_>) -> Option<u32>
     requires { words.old.line ≡ line.now }
     ensures line { words.new.line ≡ words.old.line }
     ensures number { MatchOption result (HasNoNumber words.old.left)
-        (λ n. TakesNumber words.old.left n words.new.left) }
+        (λ n. TakesFirstNumber words.old.left n words.new.left) }
 {
     match words.next() {
         Some(span) => number(span.of(line)),
@@ -26,7 +26,7 @@ fn next_number(line: &[u8], words: &mut Words<'_>) -> Option<u32>
 #[tactic(auto, using(crate::proofs::Numbers::numbers))]
 fn read_numbers(line: &[u8], words: &mut Words<'_>, numbers: &mut [u32]) -> bool
     requires { words.old.line ≡ line.now }
-    ensures { numbers_in (length numbers.old) words.old.left
+    ensures { row_numbers (length numbers.old) words.old.left
         ≡ (if result then Some numbers.new else None) }
 {
     for i in 0..numbers.len() {
@@ -44,7 +44,7 @@ fn read_numbers(line: &[u8], words: &mut Words<'_>, numbers: &mut [u32]) -> bool
 /// The charge that the words behind `charge` are.
 fn read_charge(line: &[u8], words: &mut Words<'_>) -> Option<Seen>
     requires { words.old.line ≡ line.now }
-    ensures { result ≡ option_map charge_of (numbers_in 2 words.old.left) }
+    ensures { result ≡ option_map seen_charge (row_numbers 2 words.old.left) }
 {
     let mut numbers = [0; 2];
     if !read_numbers(line, words, &mut numbers) {
@@ -57,7 +57,7 @@ fn read_charge(line: &[u8], words: &mut Words<'_>) -> Option<Seen>
 /// The region that the words behind `region` are.
 fn read_region(line: &[u8], words: &mut Words<'_>) -> Option<Seen>
     requires { words.old.line ≡ line.now }
-    ensures { result ≡ option_map region_of (numbers_in 8 words.old.left) }
+    ensures { result ≡ option_map seen_region (row_numbers 8 words.old.left) }
 {
     let mut numbers = [0; 8];
     if !read_numbers(line, words, &mut numbers) {

@@ -1,5 +1,5 @@
 ghost use Rattle.std.specs.Prelude.{◌≡◌, ◌+◌, ◌<◌, ◌^◌};
-ghost use Rattle.mm_observations.specs.RunLines.{first_word, is_answer, number_answered, process_made, no_lines, run_after, is_made};
+ghost use Rattle.mm_observations.specs.RunLines.{leading_word, is_answer, number_answered, process_made, no_lines, run_after, is_made};
 
 use mm_script::is_text;
 use mm_text::{Words, number};
@@ -16,8 +16,8 @@ pub struct RunLines {
 }
 
 /// The first word of a line, or nothing of one that is too long.
-fn first_word(line: &[u8]) -> &[u8]
-    ensures { result.now ≡ first_word line.now }
+fn leading_word(line: &[u8]) -> &[u8]
+    ensures { result.now ≡ leading_word line.now }
 {
     if line.len() > LONGEST_LINE {
         return &[];
@@ -32,7 +32,7 @@ fn first_word(line: &[u8]) -> &[u8]
 fn is_answer(text: &[u8]) -> bool
     ensures { result ≡ is_answer text.now }
 {
-    let word = first_word(text);
+    let word = leading_word(text);
     !(is_text(word, b"bad") || is_text(word, b"too"))
 }
 
@@ -50,7 +50,7 @@ fn number_answered(answer: &[u8]) -> Option<u32>
 fn process_made(line: &[u8], answer: &[u8]) -> Option<u32>
     ensures { result ≡ process_made line.now answer.now }
 {
-    if is_text(first_word(line), b"process") {
+    if is_text(leading_word(line), b"process") {
         number_answered(answer)
     } else {
         None

@@ -1,6 +1,6 @@
 ghost use Rattle.std.specs.Prelude.{◌≡◌, ◌++◌, ◌∷◌, [], MatchResult, Ok};
 ghost use Rattle.mm_observations.specs.Packing.{none_before};
-ghost use Rattle.mm_observations.specs.Packed.{packed, Refuses};
+ghost use Rattle.mm_observations.specs.Packed.{packed, RefusesFile};
 ghost use Rattle.mm_observations.specs.Packs.{Packs};
 
 use crate::checking::good_row;
@@ -79,7 +79,7 @@ fn ended(packing: Packing) -> Result<Vec<u8>, PackFault>
 #[tactic(auto, using(crate::proofs::Files::files_packed))]
 pub fn packed(alloc: Global, bytes: &[u8], run: &RunLines) -> Result<Vec<u8>, PackFault>
     ensures { MatchResult result (λ v. packed run.now bytes.now ≡ Ok v.items)
-        (Refuses (packed run.now bytes.now)) }
+        (RefusesFile (packed run.now bytes.now)) }
 {
     let mut packing = Packing::new(alloc);
     let mut number = 1u64;

@@ -6,11 +6,11 @@ use Rattle.std.proofs.lemmas.List.Sums.{length-filter, sum_by-cons}
 use Rattle.mm_types.specs.{Counts, Record}
 use Rattle.mm_move_rules.specs.{record_at, FrameLife, counts_of, is_active, is_in_transition}
 use Rattle.mm_move_laws.specs.{counted_frames}
-use Rattle.mm_reports.specs.{AddUp, total_in, use_of, row_of, is_use, records_in, totals, Column, Use}
+use Rattle.mm_reports.specs.{AddUp, total_in, use_of, row_of_use, is_use, records_in, totals, Column, Use}
 use Rattle.mm_reports.specs.declared.uses.Column.TheVariants as column
 use Rattle.mm_reports.specs.declared.uses.Use.TheVariants as use_of_frames
 
-one_row : (u : Use) → cond (row_of u == 0) 1 0 + cond (row_of u == 1) 1 0 + cond (row_of u == 2) 1 0 + cond (row_of u == 3) 1 0 + cond (row_of u == 4) 1 0 ≡ 1
+one_row : (u : Use) → cond (row_of_use u == 0) 1 0 + cond (row_of_use u == 1) 1 0 + cond (row_of_use u == 2) 1 0 + cond (row_of_use u == 3) 1 0 + cond (row_of_use u == 4) 1 0 ≡ 1
 one_row use_of_frames.ProcessPrivate = refl
 one_row use_of_frames.PageFileSection = refl
 one_row use_of_frames.MappedFile = refl

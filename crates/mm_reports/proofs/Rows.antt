@@ -3,7 +3,7 @@ use Rattle.std.proofs.Common.{◌≡◌, ℕ, ◌∷◌, [], ◌++◌, ap, ◌�
 use Rattle.std.specs.Prelude.{codes}
 use Rattle.mm_types.specs.{Text, decimal}
 use Rattle.mm_move_rules.specs.{ResidentSet, numbered}
-use Rattle.mm_reports.specs.{set_row}
+use Rattle.mm_reports.specs.{working_set_row}
 
 -- the two numbers of a row are these
 pub pair_is : (before between behind : Text) (m n m' n' : ℕ) (text text1 : Text) → text1 ≡ text ++ numbered before m (numbered between n behind) → m ≡ m' → n ≡ n'
@@ -15,7 +15,7 @@ pair_is before between behind m n m' n' text text1 e em en =
 module _ (text text1 text2 text3 : Text) (pid resident min max : ℕ) (s : ResidentSet) where
   pub set_told : text1 ≡ text ++ (codes "working set of process " ++ decimal pid) → text2 ≡ text1 ++ (codes ": " ++ decimal resident)
       → text3 ≡ text2 ++ numbered (codes " (min ") min (numbered (codes ", max ") max (41 ∷ 10 ∷ [])) → resident ≡ s.resident → min ≡ s.min → max ≡ s.max
-      → text3 ≡ text ++ set_row pid s
+      → text3 ≡ text ++ working_set_row pid s
   set_told e1 e2 e3 er em ex =
       let process : Text = codes "working set of process " ++ decimal pid in
       let frames : Text = codes ": " ++ decimal s.resident in

@@ -14,9 +14,9 @@ use Rattle.mm_move_rules.specs.{is_zeroer, IsLegal, touches, FrameLife, set_of, 
 use Rattle.mm_move_classes.specs.{class_of, class_of_got, classes, classes_from, is_busy, is_trim, makes_room, makes_way, next_of, reads_into, MarksOf}
 use Rattle.mm_move_classes.specs.{marks_after, no_marks, Class}
 use Rattle.mm_move_classes.specs.declared.classes.Class.TheVariants as class
-use Rattle.mm_reports.specs.{column_of, end_of, is_first_use, is_hard, is_on_paging_file, is_soft, is_zero_fill, page_of, place_of, process_of}
-use Rattle.mm_reports.specs.{column_count, one_at, sum_in, SumsToClasses, Table, Tally, column_in, counted, no_tally, none_counted, one_in_column}
-use Rattle.mm_reports.specs.{place_cmp, plus_one, tallied, fault_tally, tally_from, with_class, with_end, with_fault}
+use Rattle.mm_reports.specs.{column_of, request_end, is_first_use, is_hard, is_on_paging_file, is_soft, is_zero_fill, page_faulted, place_of, process_of_line}
+use Rattle.mm_reports.specs.{column_count, one_at, sum_in, SumsToClasses, Table, FaultTally, column_in, counted, no_tally, none_counted, one_in_column}
+use Rattle.mm_reports.specs.{place_cmp, plus_one, tally_after, fault_tally, tally_from, with_class, with_end, with_fault}
 
 -- ---- a table
 
@@ -113,16 +113,16 @@ low_in None j e = absurd (none-some j e)
 low_in (Some c) j e = low_column c j e
 
 -- what a fault_tally keeps
-record AreRows (t : Tally) : Type 0 where
+record AreRows (t : FaultTally) : Type 0 where
   pages : AreWide t.pages
   processes : AreWide t.processes
 
 -- the sums of a column, from one fault_tally to another
-record Sums (t t' : Tally) (j n : ℕ) : Type 0 where
+record Sums (t t' : FaultTally) (j n : ℕ) : Type 0 where
   pages : sum_in j t'.pages ≡ sum_in j t.pages + n
   processes : sum_in j t'.processes ≡ sum_in j t.processes + n
 
-fault_rows_wide : (t : Tally) (pid : ℕ) (key : Option Key) (column : Option ℕ) → AreRows t → AreRows (with_fault t pid key column)
+fault_rows_wide : (t : FaultTally) (pid : ℕ) (key : Option Key) (column : Option ℕ) → AreRows t → AreRows (with_fault t pid key column)
 fault_rows_wide t pid None column w = w
 fault_rows_wide t pid (Some k) None w = w
 fault_rows_wide t pid (Some k) (Some column) w = record {
@@ -130,7 +130,7 @@ fault_rows_wide t pid (Some k) (Some column) w = record {
   processes = wide nat_cmp t.processes pid column w.processes;
 }
 
-fault_sums : (t : Tally) (pid : ℕ) (key : Option Key) (column : Option ℕ) (j : ℕ) → AreRows t → ((i : ℕ) → column ≡ Some i → i < 8) → (key ≡ None → column ≡ None)
+fault_sums : (t : FaultTally) (pid : ℕ) (key : Option Key) (column : Option ℕ) (j : ℕ) → AreRows t → ((i : ℕ) → column ≡ Some i → i < 8) → (key ≡ None → column ≡ None)
     → Sums t (with_fault t pid key column) j (one_at column j)
 fault_sums t pid None column j w low none =
     let e : 0 ≡ one_at column j = ap (λ (o : Option ℕ). one_at o j) (sym (none refl)) in
@@ -156,7 +156,7 @@ map_owned : (l : FrameLife) (r : Record) (p : Place) → r.owner ≡ None
 map_owned l r p e =
     ap (λ (o : Option Key). unwrap_or (option_map (fits_place p) o) false && not (is_read r.request) && is_none (l.valid p) && touches p.pid.0 l.kind && is_below_max (set_of l p.pid.0)) e
 
-no_page : (l : FrameLife) (v : MarksOf) (before : Option Move) (m : Move) (next : Option Move) → IsLegal m l → page_of l m ≡ None → column_in (class_of l v before m next) ≡ None
+no_page : (l : FrameLife) (v : MarksOf) (before : Option Move) (m : Move) (next : Option Move) → IsLegal m l → page_faulted l m ≡ None → column_in (class_of l v before m next) ≡ None
 no_page l v before (move.At n k) next legal e = refl
 no_page l v before (move.Add k b) next legal e = absurd (none-some k (sym e))
 no_page l v before (move.Drop k) next legal e = if_none (is_busy l (l.stands k)) class.DeletedInFlight class.Deleted refl refl
@@ -185,72 +185,72 @@ no_page l v before (move.Lost f) next legal e = if_none (is_none (record_at l.fr
 -- ---- a move
 
 -- what is counted beside the faults leaves the tables as they are
-end_keeps : (t : Tally) (c : Option Class) (paged : Bool) (how : Option ℕ) (j n : ℕ) (t0 : Tally) → Sums t0 t j n → Sums t0 (with_end (with_class t c) paged how) j n
+end_keeps : (t : FaultTally) (c : Option Class) (paged : Bool) (how : Option ℕ) (j n : ℕ) (t0 : FaultTally) → Sums t0 t j n → Sums t0 (with_end (with_class t c) paged how) j n
 end_keeps t c paged None j n t0 s = record { pages = s.pages; processes = s.processes }
 end_keeps t c true (Some how) j n t0 s = record { pages = s.pages; processes = s.processes }
 end_keeps t c false (Some how) j n t0 s = record { pages = s.pages; processes = s.processes }
 
-end_wide : (t : Tally) (c : Option Class) (paged : Bool) (how : Option ℕ) → AreRows t → AreRows (with_end (with_class t c) paged how)
+end_wide : (t : FaultTally) (c : Option Class) (paged : Bool) (how : Option ℕ) → AreRows t → AreRows (with_end (with_class t c) paged how)
 end_wide t c paged None w = record { pages = w.pages; processes = w.processes }
 end_wide t c true (Some how) w = record { pages = w.pages; processes = w.processes }
 end_wide t c false (Some how) w = record { pages = w.pages; processes = w.processes }
 
-move_wide : (t : Tally) (l : FrameLife) (m : Move) (c : Option Class) → AreRows t → AreRows (tallied t l m c)
-move_wide t l m c w = end_wide (with_fault t (process_of l.kind) (page_of l m) (column_in c)) c (is_on_paging_file l m) (end_of m) (fault_rows_wide t (process_of l.kind) (page_of l m) (column_in c) w)
+move_wide : (t : FaultTally) (l : FrameLife) (m : Move) (c : Option Class) → AreRows t → AreRows (tally_after t l m c)
+move_wide t l m c w = end_wide (with_fault t (process_of_line l.kind) (page_faulted l m) (column_in c)) c (is_on_paging_file l m) (request_end m) (fault_rows_wide t (process_of_line l.kind) (page_faulted l m) (column_in c) w)
 
-move_sums : (t : Tally) (l : FrameLife) (m : Move) (c : Option Class) (j : ℕ) → AreRows t → (page_of l m ≡ None → column_in c ≡ None) → Sums t (tallied t l m c) j (one_at (column_in c) j)
+move_sums : (t : FaultTally) (l : FrameLife) (m : Move) (c : Option Class) (j : ℕ) → AreRows t → (page_faulted l m ≡ None → column_in c ≡ None) → Sums t (tally_after t l m c) j (one_at (column_in c) j)
 move_sums t l m c j w none =
-    end_keeps (with_fault t (process_of l.kind) (page_of l m) (column_in c)) c (is_on_paging_file l m) (end_of m) j (one_at (column_in c) j) t (fault_sums t (process_of l.kind) (page_of l m) (column_in c) j w (low_in c) none)
+    end_keeps (with_fault t (process_of_line l.kind) (page_faulted l m) (column_in c)) c (is_on_paging_file l m) (request_end m) j (one_at (column_in c) j) t (fault_sums t (process_of_line l.kind) (page_faulted l m) (column_in c) j w (low_in c) none)
 
 -- ---- the moves that come
 
-joined : (a b c : Tally) (j n k : ℕ) → Sums a b j n → Sums b c j k → Sums a c j (n + k)
+joined : (a b c : FaultTally) (j n k : ℕ) → Sums a b j n → Sums b c j k → Sums a c j (n + k)
 joined a b c j n k s u = record { pages = omega (arith, s.pages, u.pages); processes = omega (arith, s.processes, u.processes) }
 
-sums_from : (ms : List Move) (t : Tally) (l l' : FrameLife) (v : MarksOf) (before : Option Move) (j : ℕ) → AreRows t → Replays ms l l'
+sums_from : (ms : List Move) (t : FaultTally) (l l' : FrameLife) (v : MarksOf) (before : Option Move) (j : ℕ) → AreRows t → Replays ms l l'
     → Sums t (tally_from t l v before ms) j (column_count j (classes_from l v before ms))
 sums_from [] t l l' v before j w r = record { pages = omega arith; processes = omega arith }
 sums_from (m ∷ ms) t l l' v before j w r =
     let c : Option Class = class_of l v before m (next_of ms) in
-    joined t (tallied t l m c) (tally_from (tallied t l m c) (after_move l m) (marks_after v m) (Some m) ms) j (one_at (column_in c) j) (column_count j (classes_from (after_move l m) (marks_after v m) (Some m) ms))
+    joined t (tally_after t l m c) (tally_from (tally_after t l m c) (after_move l m) (marks_after v m) (Some m) ms) j (one_at (column_in c) j) (column_count j (classes_from (after_move l m) (marks_after v m) (Some m) ms))
     (move_sums t l m c j w (no_page l v before m (next_of ms) r.0))
-    (sums_from ms (tallied t l m c) (after_move l m) l' (marks_after v m) (Some m) j (move_wide t l m c w) r.1)
+    (sums_from ms (tally_after t l m c) (after_move l m) l' (marks_after v m) (Some m) j (move_wide t l m c w) r.1)
 
 -- ---- as a check of a log counts
 
-module _ (part : Tally → ℕ) (is : Option Class → Bool) (one : (t : Tally) (l : FrameLife) (m : Move) (c : Option Class) → part (tallied t l m c) ≡ part t + cond (is c) 1 0) where
-  part_from : (ms : List Move) (t : Tally) (l : FrameLife) (v : MarksOf) (before : Option Move) → part (tally_from t l v before ms) ≡ part t + count_by is (classes_from l v before ms)
+module _ (part : FaultTally → ℕ) (is : Option Class → Bool) (one : (t : FaultTally) (l : FrameLife) (m : Move) (c : Option Class) → part (tally_after t l m c) ≡ part t + cond (is c) 1 0) where
+  part_from : (ms : List Move) (t : FaultTally) (l : FrameLife) (v : MarksOf) (before : Option Move) → part (tally_from t l v before ms) ≡ part t + count_by is (classes_from l v before ms)
   part_from [] t l v before = omega arith
   part_from (m ∷ ms) t l v before =
       let c : Option Class = class_of l v before m (next_of ms) in
-      omega (arith, one t l m c, part_from ms (tallied t l m c) (after_move l m) (marks_after v m) (Some m), sum_by-cons (λ x. cond (is x) 1 0) c (classes_from (after_move l m) (marks_after v m) (Some m) ms))
+      omega (arith, one t l m c, part_from ms (tally_after t l m c) (after_move l m) (marks_after v m) (Some m), sum_by-cons (λ x. cond (is x) 1 0) c (classes_from (after_move l m) (marks_after v m) (Some m) ms))
 
 one_if : (b : Bool) (n : ℕ) → plus_one b n ≡ n + cond b 1 0
 one_if true n = refl
 one_if false n = omega arith
 
-record Parts (t t' : Tally) (c : Option Class) : Type 0 where
+record Parts (t t' : FaultTally) (c : Option Class) : Type 0 where
   zero_fills : t'.zero_fills ≡ t.zero_fills + cond (is_zero_fill c) 1 0
   hard : t'.hard ≡ t.hard + cond (is_hard c) 1 0
   soft : t'.soft ≡ t.soft + cond (is_soft c) 1 0
   first_uses : t'.first_uses ≡ t.first_uses + cond (is_first_use c) 1 0
 
-class_parts : (t : Tally) (c : Option Class) → Parts t (with_class t c) c
+class_parts : (t : FaultTally) (c : Option Class) → Parts t (with_class t c) c
 class_parts t c = record { zero_fills = one_if (is_zero_fill c) t.zero_fills; hard = one_if (is_hard c) t.hard; soft = one_if (is_soft c) t.soft; first_uses = one_if (is_first_use c) t.first_uses }
 
-end_parts : (t : Tally) (c : Option Class) (paged : Bool) (how : Option ℕ) → Parts t (with_end (with_class t c) paged how) c
+end_parts : (t : FaultTally) (c : Option Class) (paged : Bool) (how : Option ℕ) → Parts t (with_end (with_class t c) paged how) c
 end_parts t c paged None = class_parts t c
 end_parts t c true (Some how) = let p = class_parts t c in record { zero_fills = p.zero_fills; hard = p.hard; soft = p.soft; first_uses = p.first_uses }
 end_parts t c false (Some how) = let p = class_parts t c in record { zero_fills = p.zero_fills; hard = p.hard; soft = p.soft; first_uses = p.first_uses }
 
-fault_parts : (t t' : Tally) (pid : ℕ) (key : Option Key) (column : Option ℕ) (c : Option Class) → Parts (with_fault t pid key column) t' c → Parts t t' c
+fault_parts : (t t' : FaultTally) (pid : ℕ) (key : Option Key) (column : Option ℕ) (c : Option Class) → Parts (with_fault t pid key column) t' c → Parts t t' c
 fault_parts t t' pid None column c p = p
 fault_parts t t' pid (Some k) None c p = p
 fault_parts t t' pid (Some k) (Some column) c p = record { zero_fills = p.zero_fills; hard = p.hard; soft = p.soft; first_uses = p.first_uses }
 
-move_parts : (t : Tally) (l : FrameLife) (m : Move) (c : Option Class) → Parts t (tallied t l m c) c
+move_parts : (t : FaultTally) (l : FrameLife) (m : Move) (c : Option Class) → Parts t (tally_after t l m c) c
 move_parts t l m c =
-    fault_parts t (tallied t l m c) (process_of l.kind) (page_of l m) (column_in c) c (end_parts (with_fault t (process_of l.kind) (page_of l m) (column_in c)) c (is_on_paging_file l m) (end_of m))
+    fault_parts t (tally_after t l m c) (process_of_line l.kind) (page_faulted l m) (column_in c) c (end_parts (with_fault t (process_of_line l.kind) (page_faulted l m) (column_in c)) c (is_on_paging_file l m) (request_end m))
 
 from_none : (a b : ℕ) → a ≡ 0 + b → a ≡ b
 from_none a b e = omega (arith, e)
@@ -258,7 +258,7 @@ from_none a b e = omega (arith, e)
 pub sums_to_classes : (moves : List Move) (l : FrameLife) → Replays moves unstarted l → SumsToClasses (fault_tally moves) (classes moves)
 sums_to_classes moves l r =
     let w : AreRows no_tally = record { pages = tt; processes = tt } in
-    let t : Tally = fault_tally moves in
+    let t : FaultTally = fault_tally moves in
     let cs : List (Option Class) = classes moves in
     record {
       pages = λ j. from_none (sum_in j t.pages) (column_count j cs) (sums_from moves no_tally unstarted l no_marks None j w r).pages;

@@ -7,7 +7,7 @@ use Rattle.mm_types.proofs.{append_nil}
 use Rattle.mm_types.specs.declared.moves.Move.TheVariants as move
 use Rattle.mm_move_rules.specs.{FrameLife, after_move}
 use Rattle.mm_csv.specs.{head_left}
-use Rattle.mm_reports.specs.{ended_by, ended_line, line_ends, said_of, counts_head_in, counts_row_in, line_rows, charge_after, charge_then, Charge}
+use Rattle.mm_reports.specs.{line_ended_by, ended_line, ends_of_lines, said_of_line, counts_head_in, counts_row_in, line_rows, charge_after, charge_then, Charge}
 use Rattle.mm_reports.specs.{Style}
 
 -- two texts were written, in front of those that come
@@ -36,7 +36,7 @@ module _ (s : Style) (script answers : Option (List Text)) where
       pick false = refl
 
   rows_ended_by : (charge : Option Charge) (l : FrameLife) (m : Move)
-      → line_rows s script answers charge (ended_by l m) ≡ flat_map (counts_row_in s (charge_then script answers charge (ended_by l m))) (ended_by l m)
+      → line_rows s script answers charge (line_ended_by l m) ≡ flat_map (counts_row_in s (charge_then script answers charge (line_ended_by l m))) (line_ended_by l m)
   rows_ended_by charge l (move.At n k) = rows_ended charge l
   rows_ended_by charge l (move.Add k b) = refl
   rows_ended_by charge l (move.Drop k) = refl
@@ -55,13 +55,13 @@ module _ (s : Style) (script answers : Option (List Text)) where
 
   -- one more move was taken
   pub counts_taken : (begun begun' : Bool) (charge charge' : Option Charge) (text text1 text2 : Text) (l : FrameLife) (m : Move)
-      → text1 ≡ text ++ head_left begun (counts_head_in s) → begun' ≡ true → charge' ≡ charge_then script answers charge (ended_by l m)
-      → text2 ≡ text1 ++ flat_map (counts_row_in s charge') (ended_by l m) → (whole : Bool) (ms : List Move)
-      → text2 ++ (head_left begun' (counts_head_in s) ++ line_rows s script answers charge' (line_ends whole (after_move l m) ms))
-      ≡ text ++ (head_left begun (counts_head_in s) ++ line_rows s script answers charge (line_ends whole l (m ∷ ms)))
+      → text1 ≡ text ++ head_left begun (counts_head_in s) → begun' ≡ true → charge' ≡ charge_then script answers charge (line_ended_by l m)
+      → text2 ≡ text1 ++ flat_map (counts_row_in s charge') (line_ended_by l m) → (whole : Bool) (ms : List Move)
+      → text2 ++ (head_left begun' (counts_head_in s) ++ line_rows s script answers charge' (ends_of_lines whole (after_move l m) ms))
+      ≡ text ++ (head_left begun (counts_head_in s) ++ line_rows s script answers charge (ends_of_lines whole l (m ∷ ms)))
   counts_taken begun begun' charge charge' text text1 text2 l m e1 is told e2 whole ms =
-      let xs : List FrameLife = ended_by l m in
-      let ys : List FrameLife = line_ends whole (after_move l m) ms in
+      let xs : List FrameLife = line_ended_by l m in
+      let ys : List FrameLife = ends_of_lines whole (after_move l m) ms in
       let now : Option Charge = charge_then script answers charge xs in
       let rows : Text = line_rows s script answers charge xs in
       let e3 : text2 ≡ text1 ++ rows = e2 ∙ ap (λ (k : Option Charge). text1 ++ flat_map (counts_row_in s k) xs) told ∙ ap (λ t. text1 ++ t) (sym (rows_ended_by charge l m)) in
@@ -71,12 +71,12 @@ module _ (s : Style) (script answers : Option (List Text)) where
 
 -- of a line that is sought
 module _ (line : ℕ) (say : FrameLife → Text) where
-  said_more : (xs ys : List FrameLife) → said_of line say (xs ++ ys) ≡ said_of line say xs ++ said_of line say ys
+  said_more : (xs ys : List FrameLife) → said_of_line line say (xs ++ ys) ≡ said_of_line line say xs ++ said_of_line line say ys
   said_more xs ys = flat_map-append _ xs ys
 
-  pub said_taken : (text text1 : Text) (l : FrameLife) (m : Move) → text1 ≡ text ++ said_of line say (ended_by l m) → (whole : Bool) (ms : List Move)
-      → text1 ++ said_of line say (line_ends whole (after_move l m) ms) ≡ text ++ said_of line say (line_ends whole l (m ∷ ms))
+  pub said_taken : (text text1 : Text) (l : FrameLife) (m : Move) → text1 ≡ text ++ said_of_line line say (line_ended_by l m) → (whole : Bool) (ms : List Move)
+      → text1 ++ said_of_line line say (ends_of_lines whole (after_move l m) ms) ≡ text ++ said_of_line line say (ends_of_lines whole l (m ∷ ms))
   said_taken text text1 l m e whole ms =
-      let xs : List FrameLife = ended_by l m in
-      let ys : List FrameLife = line_ends whole (after_move l m) ms in
-      ap (λ t. t ++ said_of line say ys) e ∙ append_assoc text (said_of line say xs) (said_of line say ys) ∙ ap (λ t. text ++ t) (sym (said_more xs ys))
+      let xs : List FrameLife = line_ended_by l m in
+      let ys : List FrameLife = ends_of_lines whole (after_move l m) ms in
+      ap (λ t. t ++ said_of_line line say ys) e ∙ append_assoc text (said_of_line line say xs) (said_of_line line say ys) ∙ ap (λ t. text ++ t) (sym (said_more xs ys))

@@ -5,7 +5,7 @@ use Rattle.std.specs.Prelude.{Option, Some, None}
 use Rattle.mm_types.specs.{Text}
 use Rattle.mm_move_rules.specs.{FrameLife}
 use Rattle.mm_text.specs.{number_of}
-use Rattle.mm_reports.specs.Splits.{before, behind}
+use Rattle.mm_reports.specs.Splits.{before, after_byte}
 use Rattle.mm_reports.specs.declared.charges.Charge.{Charge}
 
 abbrev pub charge_of : Option ℕ → Option ℕ → Option Charge
@@ -16,9 +16,9 @@ charge_of (Some charged) (Some limit) = Some (record { charged = charged; limit 
 -- `ok`, the charge, its limit
 abbrev pub charge_in : Text → Option Charge
 charge_in answer =
-    let numbers : Text = behind 32 answer in
+    let numbers : Text = after_byte 32 answer in
     if bytes_eq (before 32 answer) (codes "ok")
-    then charge_of (number_of (before 32 numbers)) (number_of (behind 32 numbers))
+    then charge_of (number_of (before 32 numbers)) (number_of (after_byte 32 numbers))
     else None
 
 -- a line that asks for the charge, and its answer

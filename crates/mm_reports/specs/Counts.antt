@@ -6,7 +6,7 @@ use Rattle.mm_move_rules.specs.{FrameLife, counts_of, unstarted}
 use Rattle.mm_move_classes.specs.{numbers_of}
 use Rattle.mm_text.specs.{right_in, numbers_in}
 use Rattle.mm_csv.specs.{csv_row}
-use Rattle.mm_reports.specs.Lines.{line_ends}
+use Rattle.mm_reports.specs.Lines.{ends_of_lines}
 use Rattle.mm_reports.specs.Charges.{charge_after}
 use Rattle.mm_reports.specs.Fields.{counts_fields}
 use Rattle.mm_reports.specs.declared.charges.Charge.{Charge}
@@ -47,4 +47,4 @@ line_rows s script answers charge (l ∷ ls) =
 
 abbrev pub counts_rows : Style → Option (List Text) → Option (List Text) → Bool → List Move → Text
 counts_rows s script answers whole moves =
-    counts_head_in s ++ line_rows s script answers None (line_ends whole unstarted moves)
+    counts_head_in s ++ line_rows s script answers None (ends_of_lines whole unstarted moves)

@@ -4,12 +4,12 @@ use Rattle.std.specs.Prelude.{Bool, List}
 use Rattle.mm_types.specs.{Text, Move}
 use Rattle.mm_move_rules.specs.{FrameLife}
 use Rattle.mm_move_classes.specs.{marks_of}
-use Rattle.mm_reports.specs.Tallies.{Tally, tally_from}
+use Rattle.mm_reports.specs.Tallies.{FaultTally, tally_from}
 use Rattle.mm_reports.specs.FaultRows.{tally_said}
 use Rattle.mm_reports.specs.declared.counters.Counters.{Counters}
 use Rattle.mm_reports.specs.declared.faults.FaultTeller.{FaultTeller}
 
-abbrev pub tally_of : Counters → Tally
+abbrev pub tally_of : Counters → FaultTally
 tally_of c = record {
   pages = c.pages.entries;
   processes = c.processes.entries;

@@ -8,7 +8,7 @@ use Rattle.mm_text.specs.{left_in, right_in, numbers_in}
 use Rattle.mm_csv.specs.{csv_row}
 use Rattle.mm_reports.specs.Faults.{FaultPlace}
 use Rattle.mm_reports.specs.Fields.{fault_fields}
-use Rattle.mm_reports.specs.Tallies.{Table, Tally, fault_tally}
+use Rattle.mm_reports.specs.Tallies.{Table, FaultTally, fault_tally}
 use Rattle.mm_reports.specs.declared.styles.Style.{Style}
 use Rattle.mm_reports.specs.declared.styles.Style.TheVariants as style
 
@@ -80,11 +80,11 @@ soft_text soft first_uses =
     numbered [] soft (numbered (codes " (") first_uses
     (codes " of them first uses of pages that an earlier line read in)" ++ 10 ∷ []))
 
-abbrev pub check_row : Tally → Text
+abbrev pub check_row : FaultTally → Text
 check_row t = hard_text t.zero_fills t.hard ++ soft_text t.soft t.first_uses
 
 -- the table; in columns with what is counted of the devices, and as a check of the log counts
-abbrev pub tally_text : Style → Tally → Text
+abbrev pub tally_text : Style → FaultTally → Text
 tally_text style.Columns t =
     fault_head ++ (flat_map (process_rows style.Columns t.pages) t.processes
     ++ (device_row (codes "paging file") t.paging_file ++ (device_row (codes "files") t.files
@@ -93,7 +93,7 @@ tally_text style.Csv t =
     fault_csv_head ++ flat_map (process_rows style.Csv t.pages) t.processes
 
 -- nothing where the log does not replay
-abbrev pub tally_said : Style → Bool → Tally → Text
+abbrev pub tally_said : Style → Bool → FaultTally → Text
 tally_said s true t = tally_text s t
 tally_said s false t = []
 

@@ -4,7 +4,7 @@ use Rattle.std.specs.Prelude.{◌≡◌, ℕ, ◌+◌, ◌==◌, if◌then◌els
 use Rattle.std.specs.Prelude.{slice_index}
 use Rattle.mm_move_classes.specs.{Class}
 use Rattle.mm_reports.specs.Faults.{is_first_use, is_hard, is_soft, is_zero_fill}
-use Rattle.mm_reports.specs.Tallies.{Table, Tally, column_in}
+use Rattle.mm_reports.specs.Tallies.{Table, FaultTally, column_in}
 
 -- the sum of a column
 abbrev pub sum_in : {K : Type 0} → ℕ → Table K → ℕ
@@ -22,7 +22,7 @@ column_count column [] = 0
 column_count column (c ∷ cs) = one_at (column_in c) column + column_count column cs
 
 -- each sum is the number of moves of the classes that it counts
-pub record SumsToClasses (t : Tally) (cs : List (Option Class)) : Type 0 where
+pub record SumsToClasses (t : FaultTally) (cs : List (Option Class)) : Type 0 where
   pub pages : (column : ℕ) → sum_in column t.pages ≡ column_count column cs
   pub processes : (column : ℕ) → sum_in column t.processes ≡ column_count column cs
   pub zero_fills : t.zero_fills ≡ count_by is_zero_fill cs

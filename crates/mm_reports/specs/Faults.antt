@@ -25,19 +25,19 @@ column_of class.CollidedFault = Some 7
 column_of _ = None
 
 -- the process whose access the line is
-abbrev pub process_of : LineKind → ℕ
-process_of (kind.Access p) = p.0
-process_of (kind.Thread p) = p.0
-process_of _ = 0
+abbrev pub process_of_line : LineKind → ℕ
+process_of_line (kind.Access p) = p.0
+process_of_line (kind.Thread p) = p.0
+process_of_line _ = 0
 
 -- the page that a fault is on
-abbrev pub page_of : FrameLife → Move → Option Key
-page_of l (move.Add k b) = Some k
-page_of l (move.Give f k) = Some k
-page_of l (move.Read f k) = Some k
-page_of l (move.Map f p) = (record_at l.frames f.0).owner
-page_of l (move.Got f) = (record_at l.frames f.0).owner
-page_of l _ = None
+abbrev pub page_faulted : FrameLife → Move → Option Key
+page_faulted l (move.Add k b) = Some k
+page_faulted l (move.Give f k) = Some k
+page_faulted l (move.Read f k) = Some k
+page_faulted l (move.Map f p) = (record_at l.frames f.0).owner
+page_faulted l (move.Got f) = (record_at l.frames f.0).owner
+page_faulted l _ = None
 
 -- a page of a process, as the table is ordered: by process, private pages before shared ones, by
 -- the numbers of their keys
@@ -77,12 +77,12 @@ is_paged (backing.Block b) = false
 is_paged backing.None = false
 
 -- how a request ends: read, a read that failed, written, a write that failed
-abbrev pub end_of : Move → Option ℕ
-end_of (move.Got f) = Some 0
-end_of (move.Bad f) = Some 1
-end_of (move.Wrote f) = Some 2
-end_of (move.Lost f) = Some 3
-end_of _ = None
+abbrev pub request_end : Move → Option ℕ
+request_end (move.Got f) = Some 0
+request_end (move.Bad f) = Some 1
+request_end (move.Wrote f) = Some 2
+request_end (move.Lost f) = Some 3
+request_end _ = None
 
 abbrev pub is_on_paging_file : FrameLife → Move → Bool
 is_on_paging_file l (move.Got f) = is_paged (record_at l.frames f.0).backing

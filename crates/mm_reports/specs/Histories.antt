@@ -6,7 +6,7 @@ use Rattle.mm_types.specs.{Text, decimal, Held, Move, Frame, Key}
 use Rattle.mm_types.specs.declared.frames.Held.TheVariants as held
 use Rattle.mm_types.specs.declared.moves.LineKind.TheVariants as kind
 use Rattle.mm_types.specs.declared.moves.Move.TheVariants as move
-use Rattle.mm_move_rules.specs.{after_move, FrameLife, same_key, unstarted, held_at, numbered}
+use Rattle.mm_move_rules.specs.{after_move, FrameLife, same_key, unstarted, held_at, numbered, is_frame}
 use Rattle.mm_move_classes.specs.{class_of, next_of, MarksOf, marks_after, no_marks, Class}
 use Rattle.mm_sentences.specs.{facts_of, sentence_text, frame_row, state_of, state_text, key_text, FrameState}
 use Rattle.mm_sentences.specs.declared.facts.Facts.{Facts}
@@ -15,10 +15,6 @@ use Rattle.mm_reports.specs.declared.subjects.Subject.{Subject}
 use Rattle.mm_reports.specs.declared.subjects.Subject.TheVariants as subject
 
 -- ---- which moves are told
-
-abbrev pub is_frame : ℕ → Option Frame → Bool
-is_frame n None = false
-is_frame n (Some f) = f.0 == n
 
 abbrev pub is_key : Key → Option Key → Bool
 is_key k None = false
@@ -61,39 +57,40 @@ move_row s l m class after =
 
 -- ---- head and end
 
-abbrev pub frames_in : List Move → ℕ
-frames_in (move.At n (kind.Machine frames slots depth blocks) ∷ ms) = frames
-frames_in _ = 0
+abbrev pub machine_frames : List Move → ℕ
+machine_frames (move.At n (kind.Machine frames slots depth blocks) ∷ ms) = frames
+machine_frames _ = 0
 
 -- a frame that the machine has, or a page
 abbrev pub history_head : Subject → List Move → Text
 history_head (subject.Frame n) moves =
-    if nat_lt n (frames_in moves) then numbered (codes "frame ") n (10 ∷ []) else []
+    if nat_lt n (machine_frames moves) then numbered (codes "frame ") n (10 ∷ []) else []
 history_head (subject.Page k) moves = codes "page " ++ (key_text k ++ 10 ∷ [])
 
-abbrev pub held_text : Held → Text
-held_text (held.Frame f) = codes "frame " ++ decimal f.0
-held_text (held.Slot s) = codes "slot " ++ decimal s.0
-held_text (held.Block b) = codes "block " ++ decimal b.0
-held_text held.Zero = codes "zero"
-held_text held.Dead = codes "dead"
+abbrev pub held_words : Held → Text
+held_words (held.Frame f) = codes "frame " ++ decimal f.0
+held_words (held.Slot s) = codes "slot " ++ decimal s.0
+held_words (held.Block b) = codes "block " ++ decimal b.0
+held_words held.Zero = codes "zero"
+held_words held.Dead = codes "dead"
 
 -- what stands at the end of a whole log; nothing of a frame that the machine does not have
 abbrev pub end_text : Subject → FrameLife → Text
 end_text (subject.Frame n) l =
     if nat_lt n l.machine.frames then codes "at the end: " ++ (frame_row l n ++ 10 ∷ []) else []
-end_text (subject.Page k) l = codes "at the end: " ++ (held_text (held_at l k) ++ 10 ∷ [])
+end_text (subject.Page k) l = codes "at the end: " ++ (held_words (held_at l k) ++ 10 ∷ [])
 
 -- ---- a history
 
-abbrev pub rows_from : Subject → Bool → FrameLife → MarksOf → Option Move → List Move → Text
-rows_from s whole l v before [] = if whole then end_text s l else []
-rows_from s whole l v before (m ∷ ms) =
+abbrev pub history_rows_from : Subject → Bool → FrameLife → MarksOf → Option Move → List Move → Text
+history_rows_from s whole l v before [] = if whole then end_text s l else []
+history_rows_from s whole l v before (m ∷ ms) =
     move_row s l m (class_of l v before m (next_of ms)) (after_move l m)
-    ++ rows_from s whole (after_move l m) (marks_after v m) (Some m) ms
+    ++ history_rows_from s whole (after_move l m) (marks_after v m) (Some m) ms
 
 abbrev pub history : Subject → Bool → List Move → Text
-history s whole moves = history_head s moves ++ rows_from s whole unstarted no_marks None moves
+history s whole moves = history_head s moves
+    ++ history_rows_from s whole unstarted no_marks None moves
 
 abbrev pub frame_history : ℕ → Bool → List Move → Text
 frame_history n whole moves = history (subject.Frame n) whole moves

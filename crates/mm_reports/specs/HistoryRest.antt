@@ -7,7 +7,7 @@ use Rattle.mm_move_classes.specs.{next_of, marks_of}
 use Rattle.mm_sentences.specs.{facts_of}
 use Rattle.mm_log_walk.specs.{class_then, move_of, Classed}
 use Rattle.mm_csv.specs.{head_left}
-use Rattle.mm_reports.specs.Histories.{history_head, history_row, rows_from, frame_state_before}
+use Rattle.mm_reports.specs.Histories.{history_head, history_row, history_rows_from, frame_state_before}
 use Rattle.mm_reports.specs.declared.histories.HistoryTeller.{HistoryTeller}
 use Rattle.mm_reports.specs.declared.history_rows.Noted.{Noted}
 use Rattle.mm_reports.specs.declared.subjects.Subject.{Subject}
@@ -30,4 +30,5 @@ abbrev pub history_rest : HistoryTeller → Bool → FrameLife → List Move →
 history_rest t whole l ms =
     head_left t.begun (history_head t.subject ms)
     ++ (waiting_row t.subject t.waiting (class_then t.classifier.pending (next_of ms)) l
-    ++ rows_from t.subject whole l (marks_of t.classifier.marks) (move_of t.classifier.pending) ms)
+    ++ history_rows_from t.subject whole l (marks_of t.classifier.marks)
+    (move_of t.classifier.pending) ms)

@@ -10,20 +10,20 @@ abbrev pub ended_line : FrameLife → List FrameLife
 ended_line l = if l.line == 0 then [] else l ∷ []
 
 -- the line that ends as this move begins the next
-abbrev pub ended_by : FrameLife → Move → List FrameLife
-ended_by l (move.At n k) = ended_line l
-ended_by l _ = []
+abbrev pub line_ended_by : FrameLife → Move → List FrameLife
+line_ended_by l (move.At n k) = ended_line l
+line_ended_by l _ = []
 
 -- the state at the end of each line that ends among these moves; at the end of a whole log its
 -- last line ends too
-abbrev pub line_ends : Bool → FrameLife → List Move → List FrameLife
-line_ends whole l [] = if whole then ended_line l else []
-line_ends whole l (m ∷ ms) = ended_by l m ++ line_ends whole (after_move l m) ms
+abbrev pub ends_of_lines : Bool → FrameLife → List Move → List FrameLife
+ends_of_lines whole l [] = if whole then ended_line l else []
+ends_of_lines whole l (m ∷ ms) = line_ended_by l m ++ ends_of_lines whole (after_move l m) ms
 
 -- the line of this number
 abbrev pub is_line : ℕ → FrameLife → Bool
 is_line line l = l.line == line
 
 -- what is said of the line of this number, if it is one of those that end so
-abbrev pub said_of : ℕ → (FrameLife → Text) → List FrameLife → Text
-said_of line say ends = flat_map (λ l. if is_line line l then say l else []) ends
+abbrev pub said_of_line : ℕ → (FrameLife → Text) → List FrameLife → Text
+said_of_line line say ends = flat_map (λ l. if is_line line l then say l else []) ends

@@ -8,5 +8,5 @@ abbrev pub before : ℕ → Text → Text
 before byte [] = []
 before byte (c ∷ cs) = if c == byte then [] else c ∷ before byte cs
 
-abbrev pub behind : ℕ → Text → Text
-behind byte word = drop (length (before byte word) + 1) word
+abbrev pub after_byte : ℕ → Text → Text
+after_byte byte word = drop (length (before byte word) + 1) word

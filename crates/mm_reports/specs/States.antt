@@ -23,14 +23,14 @@ ValidPage = ℕ × ℕ
 abbrev pub page_cmp : ValidPage → ValidPage → Ordering
 page_cmp a b = ordering_then (nat_cmp a.0 b.0) (nat_cmp a.1 b.1)
 
-abbrev pub page_at : Place → ValidPage
-page_at place = (place.pid.0, place.vpn.0)
+abbrev pub valid_page_at : Place → ValidPage
+valid_page_at place = (place.pid.0, place.vpn.0)
 
 -- the valid pages, rising, after one move more
 abbrev pub pages_after : List ValidPage → Move → List ValidPage
 pages_after pages (move.At n (kind.Machine frames slots depth blocks)) = []
-pages_after pages (move.Map f place) = insert_key page_cmp pages (page_at place)
-pages_after pages (move.Unmap place) = remove_key (is_at (page_cmp (page_at place))) pages
+pages_after pages (move.Map f place) = insert_key page_cmp pages (valid_page_at place)
+pages_after pages (move.Unmap place) = remove_key (is_at (page_cmp (valid_page_at place))) pages
 pages_after pages _ = pages
 
 -- ---- rows
@@ -96,8 +96,8 @@ list_rows l =
     ++ (list_row (codes "modified") l.frames.modified
     ++ list_row (codes "requests") l.flight)))
 
-abbrev pub state_text : FrameLife → List ValidPage → Text
-state_text l pages =
+abbrev pub line_state_text : FrameLife → List ValidPage → Text
+line_state_text l pages =
     numbered (codes "after line ") l.line (10 ∷ [])
     ++ (list_rows l ++ (frame_lines l.frames l.machine.frames
     ++ (process_lines pages 1 l.sets ++ slots_line l)))
@@ -107,7 +107,7 @@ state_text l pages =
 -- what is told where a line ends
 abbrev pub state_at : ℕ → FrameLife → List ValidPage → Text
 state_at line l pages =
-    if l.line == 0 then [] else if is_line line l then state_text l pages else []
+    if l.line == 0 then [] else if is_line line l then line_state_text l pages else []
 
 -- what is told as this move ends a line
 abbrev pub state_ended_by : ℕ → FrameLife → List ValidPage → Move → Text

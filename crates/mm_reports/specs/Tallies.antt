@@ -7,8 +7,8 @@ use Rattle.std.specs.Ordering.{nat_cmp, bool_cmp, match_ordering, ordering_then}
 use Rattle.mm_types.specs.{Move, Key}
 use Rattle.mm_move_rules.specs.{after_move, FrameLife, unstarted}
 use Rattle.mm_move_classes.specs.{class_of, next_of, MarksOf, marks_after, no_marks, Class}
-use Rattle.mm_reports.specs.Faults.{column_of, process_of, page_of, FaultPlace, place_of, is_zero_fill}
-use Rattle.mm_reports.specs.Faults.{is_hard, is_first_use, is_soft, end_of, is_on_paging_file}
+use Rattle.mm_reports.specs.Faults.{column_of, process_of_line, page_faulted, FaultPlace, place_of, is_zero_fill}
+use Rattle.mm_reports.specs.Faults.{is_hard, is_first_use, is_soft, request_end, is_on_paging_file}
 
 -- ---- numbers by column, and tables of them
 
@@ -36,7 +36,7 @@ place_cmp a b =
 
 -- ---- all that is counted
 
-pub record Tally : Type 0 where
+pub record FaultTally : Type 0 where
   -- the faults of each page, and of each process
   pub pages : Table FaultPlace
   pub processes : Table ℕ
@@ -49,7 +49,7 @@ pub record Tally : Type 0 where
   pub soft : ℕ
   pub first_uses : ℕ
 
-abbrev pub no_tally : Tally
+abbrev pub no_tally : FaultTally
 no_tally = record {
   pages = [];
   processes = [];
@@ -62,7 +62,7 @@ no_tally = record {
 }
 
 -- a fault of this process on this page
-abbrev pub with_fault : Tally → ℕ → Option Key → Option ℕ → Tally
+abbrev pub with_fault : FaultTally → ℕ → Option Key → Option ℕ → FaultTally
 with_fault t pid None column = t
 with_fault t pid (Some k) None = t
 with_fault t pid (Some k) (Some column) = record t {
@@ -74,7 +74,7 @@ abbrev pub plus_one : Bool → ℕ → ℕ
 plus_one true n = n + 1
 plus_one false n = n
 
-abbrev pub with_class : Tally → Option Class → Tally
+abbrev pub with_class : FaultTally → Option Class → FaultTally
 with_class t c = record t {
   zero_fills = plus_one (is_zero_fill c) t.zero_fills;
   hard = plus_one (is_hard c) t.hard;
@@ -83,7 +83,7 @@ with_class t c = record t {
 }
 
 -- a request that ended so
-abbrev pub with_end : Tally → Bool → Option ℕ → Tally
+abbrev pub with_end : FaultTally → Bool → Option ℕ → FaultTally
 with_end t paged None = t
 with_end t true (Some how) = record t { paging_file = one_in_column t.paging_file how }
 with_end t false (Some how) = record t { files = one_in_column t.files how }
@@ -93,18 +93,18 @@ column_in None = None
 column_in (Some c) = column_of c
 
 -- one move more, of this class
-abbrev pub tallied : Tally → FrameLife → Move → Option Class → Tally
-tallied t l m c =
-    with_end (with_class (with_fault t (process_of l.kind) (page_of l m) (column_in c)) c)
-    (is_on_paging_file l m) (end_of m)
+abbrev pub tally_after : FaultTally → FrameLife → Move → Option Class → FaultTally
+tally_after t l m c =
+    with_end (with_class (with_fault t (process_of_line l.kind) (page_faulted l m) (column_in c)) c)
+    (is_on_paging_file l m) (request_end m)
 
 -- the moves that come, in this state, with these marks, after this move
-abbrev pub tally_from : Tally → FrameLife → MarksOf → Option Move → List Move → Tally
+abbrev pub tally_from : FaultTally → FrameLife → MarksOf → Option Move → List Move → FaultTally
 tally_from t l v before [] = t
 tally_from t l v before (m ∷ ms) =
-    tally_from (tallied t l m (class_of l v before m (next_of ms))) (after_move l m)
+    tally_from (tally_after t l m (class_of l v before m (next_of ms))) (after_move l m)
     (marks_after v m)
     (Some m) ms
 
-abbrev pub fault_tally : List Move → Tally
+abbrev pub fault_tally : List Move → FaultTally
 fault_tally moves = tally_from no_tally unstarted no_marks None moves

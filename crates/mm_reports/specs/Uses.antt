@@ -7,7 +7,7 @@ use Rattle.mm_types.specs.{Text, decimal, Counts, Record, Request, Move, Key}
 use Rattle.mm_types.specs.declared.numbers.Key.TheVariants.{Private, Shared}
 use Rattle.mm_move_rules.specs.{ResidentSet, record_at, has_request, FrameLife, unstarted, counts_of, is_active, is_in_transition, numbered}
 use Rattle.mm_text.specs.{right_in, numbers_in}
-use Rattle.mm_reports.specs.Lines.{line_ends, said_of}
+use Rattle.mm_reports.specs.Lines.{ends_of_lines, said_of_line}
 use Rattle.mm_reports.specs.declared.uses.Use.{Use}
 use Rattle.mm_reports.specs.declared.uses.Use.TheVariants as use_of_frames
 use Rattle.mm_reports.specs.declared.uses.Column.{Column}
@@ -26,15 +26,15 @@ abbrev pub use_of : FrameLife → Record → Use
 use_of l r = use_by l r.owner r.request
 
 -- the row in which it is told
-abbrev pub row_of : Use → ℕ
-row_of use_of_frames.ProcessPrivate = 0
-row_of use_of_frames.PageFileSection = 1
-row_of use_of_frames.MappedFile = 2
-row_of use_of_frames.Deleted = 3
-row_of use_of_frames.Unused = 4
+abbrev pub row_of_use : Use → ℕ
+row_of_use use_of_frames.ProcessPrivate = 0
+row_of_use use_of_frames.PageFileSection = 1
+row_of_use use_of_frames.MappedFile = 2
+row_of_use use_of_frames.Deleted = 3
+row_of_use use_of_frames.Unused = 4
 
 abbrev pub is_use : FrameLife → Use → Record → Bool
-is_use l u r = row_of (use_of l r) == row_of u
+is_use l u r = row_of_use (use_of l r) == row_of_use u
 
 -- ---- cells
 
@@ -70,19 +70,19 @@ all_uses =
     use_of_frames.ProcessPrivate ∷ use_of_frames.PageFileSection ∷ use_of_frames.MappedFile
     ∷ use_of_frames.Deleted ∷ use_of_frames.Unused ∷ []
 
-abbrev pub name_of : Use → Text
-name_of use_of_frames.ProcessPrivate = codes "Process private         "
-name_of use_of_frames.PageFileSection = codes "Page-file section       "
-name_of use_of_frames.MappedFile = codes "Mapped file             "
-name_of use_of_frames.Deleted = codes "Deleted, I/O in flight  "
-name_of use_of_frames.Unused = codes "Unused                  "
+abbrev pub use_name : Use → Text
+use_name use_of_frames.ProcessPrivate = codes "Process private         "
+use_name use_of_frames.PageFileSection = codes "Page-file section       "
+use_name use_of_frames.MappedFile = codes "Mapped file             "
+use_name use_of_frames.Deleted = codes "Deleted, I/O in flight  "
+use_name use_of_frames.Unused = codes "Unused                  "
 
 -- a name, numbers, and their sum
 abbrev pub sum_row : Text → List ℕ → Text
 sum_row name ns = name ++ (numbers_in 12 ns ++ (right_in 12 (decimal (sum ns)) ++ 10 ∷ []))
 
 abbrev pub use_row : FrameLife → Use → Text
-use_row l u = sum_row (name_of u) (cells l u)
+use_row l u = sum_row (use_name u) (cells l u)
 
 abbrev pub use_head : Text
 use_head =
@@ -107,8 +107,8 @@ requests_row l =
     (numbered (codes ", depth ") l.machine.depth (10 ∷ []))
 
 -- the working set of the process of this number
-abbrev pub set_row : ℕ → ResidentSet → Text
-set_row pid s =
+abbrev pub working_set_row : ℕ → ResidentSet → Text
+working_set_row pid s =
     numbered (codes "working set of process ") pid
     (numbered (codes ": ") s.resident
     (numbered (codes " (min ") s.min (numbered (codes ", max ") s.max (41 ∷ 10 ∷ []))))
@@ -116,7 +116,7 @@ set_row pid s =
 -- those of the processes from this number on
 abbrev pub set_rows : ℕ → List ResidentSet → Text
 set_rows pid [] = []
-set_rows pid (s ∷ ss) = set_row pid s ++ set_rows (pid + 1) ss
+set_rows pid (s ∷ ss) = working_set_row pid s ++ set_rows (pid + 1) ss
 
 -- the use of page frames at the end of a line
 abbrev pub use_text : FrameLife → Text
@@ -125,4 +125,4 @@ use_text l =
     ++ (use_table l ++ (slots_row l ++ (requests_row l ++ set_rows 1 l.sets)))
 
 abbrev pub use_rows : ℕ → Bool → List Move → Text
-use_rows line whole moves = said_of line use_text (line_ends whole unstarted moves)
+use_rows line whole moves = said_of_line line use_text (ends_of_lines whole unstarted moves)

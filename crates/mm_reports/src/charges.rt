@@ -1,10 +1,10 @@
 ghost use Rattle.std.specs.Prelude.{◌≡◌, [], option_map};
 ghost use Rattle.mm_replay.specs.Standing.{life as life_of};
-ghost use Rattle.mm_reports.specs.Lines.{ended_by, ended_line, line_ends};
+ghost use Rattle.mm_reports.specs.Lines.{line_ended_by, ended_line, ends_of_lines};
 ghost use Rattle.mm_reports.specs.Charges.{charge_of, charge_in, charge_by, line_at, charge_at};
 ghost use Rattle.mm_reports.specs.Charges.{later_charge, charge_after, charge_then};
 
-use crate::splits::{before, behind};
+use crate::splits::{after_byte, before};
 use mm_log_walk::Lines;
 use mm_replay::Life;
 use mm_script::is_text;
@@ -36,8 +36,11 @@ fn charge_in(answer: &[u8]) -> Option<Charge>
     if !is_text(before(b' ', answer), b"ok") {
         return None;
     }
-    let numbers = behind(b' ', answer);
-    charge_of(number(before(b' ', numbers)), number(behind(b' ', numbers)))
+    let numbers = after_byte(b' ', answer);
+    charge_of(
+        number(before(b' ', numbers)),
+        number(after_byte(b' ', numbers)),
+    )
 }
 
 /// The charge that a line with this answer tells, if it asks for it.
@@ -119,7 +122,7 @@ pub(crate) fn charge_ended_by(
     m: &Move,
 ) -> Option<Charge>
     ensures { result ≡ charge_then script.now answers.now last
-        (ended_by (life_of life.now) m.now) }
+        (line_ended_by (life_of life.now) m.now) }
 {
     match *m {
         Move::At(_, _) => charge_ended(script, answers, last, life),

@@ -3,11 +3,11 @@ ghost use Rattle.mm_replay.specs.Standing.{life as life_of};
 ghost use Rattle.mm_reports.specs.FaultRest.{tally_of};
 ghost use Rattle.mm_reports.specs.Tallies.{counted, no_tally, one_in_column};
 ghost use Rattle.mm_reports.specs.Kept.{counts_at};
-ghost use Rattle.mm_reports.specs.Tallies.{plus_one, tallied, with_class, with_end, with_fault};
+ghost use Rattle.mm_reports.specs.Tallies.{plus_one, tally_after, with_class, with_end, with_fault};
 
 use crate::kinds::{
-    FaultPlace, column_in, end_of, is_first_use, is_hard, is_on_paging_file, is_soft, is_zero_fill,
-    page_of, place_of, process_of,
+    FaultPlace, column_in, is_first_use, is_hard, is_on_paging_file, is_soft, is_zero_fill,
+    page_faulted, place_of, process_of_line, request_end,
 };
 use mm_move_classes::Class;
 use mm_replay::Life;
@@ -157,10 +157,14 @@ impl Counters {
         class: Option<Class>,
     ) -> Result<(), NoMemory>
         ensures { OnOk result (tally_of self.new
-            ≡ tallied (tally_of self.old) (life_of life.now) m.now class) }
+            ≡ tally_after (tally_of self.old) (life_of life.now) m.now class) }
     {
-        self.count_fault(process_of(life.kind()), page_of(life, m), column_in(class))?;
+        self.count_fault(
+            process_of_line(life.kind()),
+            page_faulted(life, m),
+            column_in(class),
+        )?;
         self.count_class(class)?;
-        self.count_end(is_on_paging_file(life, m), end_of(m))
+        self.count_end(is_on_paging_file(life, m), request_end(m))
     }
 }

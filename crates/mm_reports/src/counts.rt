@@ -6,11 +6,11 @@ ghost use Rattle.mm_move_classes.specs.{numbers_of};
 ghost use Rattle.mm_text.specs.{numbers_in};
 ghost use Rattle.mm_reports.specs.Counts.{counts_csv_head, counts_head, counts_head_in, counts_row};
 ghost use Rattle.mm_reports.specs.Counts.{counts_row_in, counts_rows, line_rows};
-ghost use Rattle.mm_reports.specs.Lines.{ended_line, ended_by, said_of};
+ghost use Rattle.mm_reports.specs.Lines.{ended_line, line_ended_by, said_of_line};
 ghost use Rattle.mm_csv.specs.{head_left};
 ghost use Rattle.mm_reports.specs.CountsRest.{counts_rest, use_rest};
 ghost use Rattle.mm_reports.specs.Uses.{use_rows, use_text};
-ghost use Rattle.mm_sentences.specs.{why_text};
+ghost use Rattle.mm_sentences.specs.{why_not};
 
 use crate::charges::{Charge, charge_ended, charge_ended_by};
 use crate::csv_rows::put_counts_fields;
@@ -125,7 +125,7 @@ fn put_ended_by(
     text: &mut Vec<u8>,
 ) -> Result<(), NoMemory>
     ensures { OnOk result (text.new.items ≡ text.old.items
-        ++ flat_map (counts_row_in style charge) (ended_by (life_of life.now) m.now)) }
+        ++ flat_map (counts_row_in style charge) (line_ended_by (life_of life.now) m.now)) }
 {
     match *m {
         Move::At(_, _) => put_ended(style, charge, life, room, text),
@@ -185,7 +185,7 @@ impl<'a> Teller for CountsTeller<'a> {
 
     ghost counted = { λ t. 0 };
 
-    ghost why = { why_text };
+    ghost why = { why_not };
 
     fn take(&mut self, life: &Life, m: &Move, text: &mut Vec<u8>) -> Result<(), NoMemory> {
         put_head_left(self.style, self.begun, text)?;
@@ -213,7 +213,7 @@ impl<'a> Teller for CountsTeller<'a> {
 /// Writes the use of frames, if the line that ends here is this one.
 fn put_said(alloc: Global, line: u32, life: &Life, text: &mut Vec<u8>) -> Result<(), NoMemory>
     ensures { OnOk result (text.new.items
-        ≡ text.old.items ++ said_of line use_text (ended_line (life_of life.now))) }
+        ≡ text.old.items ++ said_of_line line use_text (ended_line (life_of life.now))) }
 {
     if life.line() == 0 || life.line() != line {
         return Ok(());
@@ -230,7 +230,7 @@ fn put_said_by(
     text: &mut Vec<u8>,
 ) -> Result<(), NoMemory>
     ensures { OnOk result (text.new.items
-        ≡ text.old.items ++ said_of line use_text (ended_by (life_of life.now) m.now)) }
+        ≡ text.old.items ++ said_of_line line use_text (line_ended_by (life_of life.now) m.now)) }
 {
     match *m {
         Move::At(_, _) => put_said(alloc, line, life, text),
@@ -260,7 +260,7 @@ impl Teller for UseTeller {
 
     ghost counted = { λ t. 0 };
 
-    ghost why = { why_text };
+    ghost why = { why_not };
 
     fn take(&mut self, life: &Life, m: &Move, text: &mut Vec<u8>) -> Result<(), NoMemory> {
         put_said_by(self.alloc, self.line, life, m, text)?;

@@ -5,7 +5,7 @@ ghost use Rattle.mm_move_classes.specs.{class_of, marks_of};
 ghost use Rattle.mm_replay.specs.Standing.{life as life_of};
 ghost use Rattle.mm_reports.specs.FaultRows.{fault_rows};
 ghost use Rattle.mm_reports.specs.FaultRest.{fault_rest};
-ghost use Rattle.mm_sentences.specs.{why_text};
+ghost use Rattle.mm_sentences.specs.{why_not};
 
 use crate::counters::Counters;
 use crate::fault_tables::put_tally;
@@ -57,7 +57,7 @@ impl Teller for FaultTeller {
 
     ghost counted = { λ t. 0 };
 
-    ghost why = { why_text };
+    ghost why = { why_not };
 
     fn take(&mut self, life: &Life, m: &Move, _text: &mut Vec<u8>) -> Result<(), NoMemory> {
         let class = class_so_far(life, &self.marks, self.before, m);

@@ -3,7 +3,7 @@ ghost use Rattle.std.specs.Prelude.{slice_index_or};
 ghost use Rattle.mm_move_rules.specs.{is_on};
 ghost use Rattle.mm_replay.specs.Standing.{life as life_of};
 ghost use Rattle.mm_sentences.specs.{state_by};
-ghost use Rattle.mm_reports.specs.{AreMarked, frame_lines, frame_words};
+ghost use Rattle.mm_reports.specs.{AreMarkedBelow, frame_lines, frame_words};
 
 use crate::runs::FrameRun;
 use mm_move_classes::{has_request, is_read};
@@ -15,7 +15,7 @@ use std::alloc::Global;
 /// A mark for each frame below this number: whether it is one of these.
 #[tactic(auto, using(crate::proofs::Marks::marks))]
 pub(crate) fn marked(alloc: Global, count: usize, frames: &[u32]) -> Result<Vec<bool>, NoMemory>
-    ensures { IfOk result (λ v. AreMarked v.items count frames.now) }
+    ensures { IfOk result (λ v. AreMarkedBelow v.items count frames.now) }
 {
     let mut marks = vec![in alloc; false; count]?;
     for frame in frames {
@@ -84,7 +84,7 @@ pub(crate) fn put_frames(
     zeroed: &[bool],
     text: &mut Vec<u8>,
 ) -> Result<(), NoMemory>
-    requires { AreMarked zeroed.now (life_of life.now).machine.frames
+    requires { AreMarkedBelow zeroed.now (life_of life.now).machine.frames
         (life_of life.now).frames.zeroed }
     ensures { OnOk result (text.new.items ≡ text.old.items
         ++ frame_lines (life_of life.now).frames (life_of life.now).machine.frames) }

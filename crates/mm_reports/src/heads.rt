@@ -2,7 +2,7 @@ ghost use Rattle.std.specs.Prelude.{◌≡◌, ◌++◌, ◌∷◌, [], List, On
 ghost use Rattle.mm_types.specs.{Move};
 ghost use Rattle.mm_replay.specs.Standing.{life as life_of};
 ghost use Rattle.mm_sentences.specs.{frame_row};
-ghost use Rattle.mm_reports.specs.{frames_in, history_head, held_text, end_text};
+ghost use Rattle.mm_reports.specs.{machine_frames, history_head, held_words, end_text};
 
 use crate::subjects::Subject;
 use mm_replay::Life;
@@ -10,8 +10,8 @@ use mm_sentences::{put_counted, put_frame_row, put_key, put_numbered, put_words}
 use mm_types::{Frame, Held, Key, LineKind, Move, NoMemory};
 
 /// The frames of the machine that a log with this first move has.
-fn frames_in(m: &Move) -> u32
-    ensures { (ms : List Move) → result ≡ frames_in (m.now ∷ ms) }
+fn machine_frames(m: &Move) -> u32
+    ensures { (ms : List Move) → result ≡ machine_frames (m.now ∷ ms) }
 {
     match *m {
         Move::At(_, LineKind::Machine(frames, _, _, _)) => frames,
@@ -27,7 +27,7 @@ pub(crate) fn put_head(subject: Subject, m: &Move, text: &mut Vec<u8>) -> Result
 {
     match subject {
         Subject::Frame(n) => {
-            if n < frames_in(m) {
+            if n < machine_frames(m) {
                 put_numbered(b"frame ", u64::from(n), b"\n", text)
             } else {
                 Ok(())
@@ -58,7 +58,7 @@ pub(crate) fn put_head_alone(subject: Subject, text: &mut Vec<u8>) -> Result<(),
 
 #[tactic(auto, using(mm_text::proofs::DigitCounts::joined))]
 fn put_held(held: Held, text: &mut Vec<u8>) -> Result<(), NoMemory>
-    ensures { OnOk result (text.new.items ≡ text.old.items ++ held_text held) }
+    ensures { OnOk result (text.new.items ≡ text.old.items ++ held_words held) }
 {
     match held {
         Held::Frame(frame) => put_counted(b"frame ", u64::from(frame.0), text),

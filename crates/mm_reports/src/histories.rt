@@ -5,7 +5,7 @@ ghost use Rattle.mm_replay.specs.Standing.{life as life_of};
 ghost use Rattle.mm_reports.specs.Histories.{history, frame_history, key_history, end_text, history_head};
 ghost use Rattle.mm_csv.specs.{head_left};
 ghost use Rattle.mm_reports.specs.HistoryRest.{history_rest};
-ghost use Rattle.mm_sentences.specs.{why_text};
+ghost use Rattle.mm_sentences.specs.{why_not};
 
 use crate::heads::{put_end, put_head, put_head_alone};
 use crate::history_rows::{Noted, note, put_waiting};
@@ -110,7 +110,7 @@ impl Teller for HistoryTeller {
 
     ghost counted = { λ t. 0 };
 
-    ghost why = { why_text };
+    ghost why = { why_not };
 
     fn take(&mut self, life: &Life, m: &Move, text: &mut Vec<u8>) -> Result<(), NoMemory> {
         put_head_left(self.begun, self.subject, m, text)?;

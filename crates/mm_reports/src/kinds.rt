@@ -1,8 +1,8 @@
 ghost use Rattle.std.specs.Prelude.{◌≡◌, ◌<◌, IfSome};
 ghost use Rattle.mm_move_classes.specs.{is_class};
 ghost use Rattle.mm_replay.specs.Standing.{life as life_of};
-ghost use Rattle.mm_reports.specs.Faults.{column_of, process_of, page_of, place_of, is_zero_fill};
-ghost use Rattle.mm_reports.specs.Faults.{is_hard, is_first_use, is_soft, is_paged, end_of};
+ghost use Rattle.mm_reports.specs.Faults.{column_of, process_of_line, page_faulted, place_of, is_zero_fill};
+ghost use Rattle.mm_reports.specs.Faults.{is_hard, is_first_use, is_soft, is_paged, request_end};
 ghost use Rattle.mm_reports.specs.Faults.{is_on_paging_file};
 ghost use Rattle.mm_reports.specs.Tallies.{column_in};
 
@@ -45,8 +45,8 @@ pub(crate) fn column_in(class: Option<Class>) -> Option<usize>
 }
 
 /// The process whose access the line is.
-pub(crate) fn process_of(kind: LineKind) -> u8
-    ensures { result ≡ process_of kind }
+pub(crate) fn process_of_line(kind: LineKind) -> u8
+    ensures { result ≡ process_of_line kind }
 {
     match kind {
         LineKind::Access(pid) | LineKind::Thread(pid) => pid.0,
@@ -55,8 +55,8 @@ pub(crate) fn process_of(kind: LineKind) -> u8
 }
 
 /// The page that a fault is on.
-pub(crate) fn page_of(life: &Life, m: &Move) -> Option<Key>
-    ensures { result ≡ page_of (life_of life.now) m.now }
+pub(crate) fn page_faulted(life: &Life, m: &Move) -> Option<Key>
+    ensures { result ≡ page_faulted (life_of life.now) m.now }
 {
     match *m {
         Move::Add(key, _) | Move::Give(_, key) | Move::Read(_, key) => Some(key),
@@ -127,8 +127,8 @@ fn is_paged(backing: Backing) -> bool
 
 /// How a request ends with this move, if one does: read, a read that failed, written, a write that
 /// failed.
-pub(crate) fn end_of(m: &Move) -> Option<usize>
-    ensures value { result ≡ end_of m.now }
+pub(crate) fn request_end(m: &Move) -> Option<usize>
+    ensures value { result ≡ request_end m.now }
     ensures low { IfSome result (λ c. c < 4) }
 {
     match *m {

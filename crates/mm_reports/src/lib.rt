@@ -28,7 +28,7 @@ pub use counts::{CountsTeller, UseTeller};
 pub use faults::FaultTeller;
 pub use histories::HistoryTeller;
 pub use laws::{faults_sum_to_classes, uses_add_up};
-pub use splits::{before, behind};
+pub use splits::{after_byte, before};
 pub use states::StateTeller;
 pub use styles::Style;
 pub use subjects::Subject;

@@ -1,5 +1,5 @@
 ghost use Rattle.std.specs.Prelude.{◌≡◌};
-ghost use Rattle.mm_reports.specs.{before, behind};
+ghost use Rattle.mm_reports.specs.{before, after_byte};
 
 /// The bytes before the first such byte; all where there is none.
 pub fn before(byte: u8, word: &[u8]) -> &[u8]
@@ -15,8 +15,8 @@ pub fn before(byte: u8, word: &[u8]) -> &[u8]
 
 /// The bytes behind the first such byte; none where there is none.
 #[tactic(auto, using(crate::proofs::Splitting::rest_behind))]
-pub fn behind(byte: u8, word: &[u8]) -> &[u8]
-    ensures { result.now ≡ behind byte word.now }
+pub fn after_byte(byte: u8, word: &[u8]) -> &[u8]
+    ensures { result.now ≡ after_byte byte word.now }
 {
     let front = before(byte, word).len();
     if front < word.len() {

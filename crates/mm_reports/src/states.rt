@@ -3,12 +3,12 @@ ghost use Rattle.mm_types.specs.{Move};
 ghost use Rattle.mm_move_rules.specs.{unstarted};
 ghost use Rattle.mm_replay.specs.Standing.{life as life_of};
 ghost use Rattle.mm_reports.specs.Listing.{AreListsOf};
-ghost use Rattle.mm_reports.specs.States.{pages_after, page_at, frame_word, list_row, page_word};
+ghost use Rattle.mm_reports.specs.States.{pages_after, valid_page_at, frame_word, list_row, page_word};
 ghost use Rattle.mm_reports.specs.States.{process_line, process_lines, slots_line, list_rows};
-ghost use Rattle.mm_reports.specs.States.{state_text};
+ghost use Rattle.mm_reports.specs.States.{line_state_text};
 ghost use Rattle.mm_reports.specs.States.{state_at, state_ended_by, state_rows};
 ghost use Rattle.mm_reports.specs.StateRest.{state_rest};
-ghost use Rattle.mm_sentences.specs.{why_text};
+ghost use Rattle.mm_sentences.specs.{why_not};
 
 use crate::frames::{marked, put_frames};
 use crate::lists::{FrameLists, frame_lists, requests};
@@ -23,8 +23,8 @@ use std::collections::BTreeSet;
 /// The valid pages, by process and number.
 type ValidPages = BTreeSet<(u8, u32)>;
 
-fn page_at(place: Place) -> (u8, u32)
-    ensures { result ≡ page_at place }
+fn valid_page_at(place: Place) -> (u8, u32)
+    ensures { result ≡ valid_page_at place }
 {
     (place.pid.0, place.vpn.0)
 }
@@ -39,11 +39,11 @@ fn follow(pages: &mut ValidPages, m: &Move) -> Result<(), NoMemory>
             Ok(())
         }
         Move::Map(_, place) => {
-            pages.insert(page_at(place))?;
+            pages.insert(valid_page_at(place))?;
             Ok(())
         }
         Move::Unmap(place) => {
-            let _ = pages.remove(&page_at(place));
+            let _ = pages.remove(&valid_page_at(place));
             Ok(())
         }
         _ => Ok(()),
@@ -165,7 +165,7 @@ fn put_state(
     text: &mut Vec<u8>,
 ) -> Result<(), NoMemory>
     ensures { OnOk result (text.new.items ≡ text.old.items
-        ++ state_text (life_of life.now) pages.now.keys) }
+        ++ line_state_text (life_of life.now) pages.now.keys) }
 {
     let lists = frame_lists(alloc, life)?;
     let zeroed = marked(alloc, life.frames() as usize, lists.zeroed.as_slice())?;
@@ -239,7 +239,7 @@ impl Teller for StateTeller {
 
     ghost counted = { λ t. 0 };
 
-    ghost why = { why_text };
+    ghost why = { why_not };
 
     fn take(&mut self, life: &Life, m: &Move, text: &mut Vec<u8>) -> Result<(), NoMemory> {
         put_before(self.alloc, self.line, life, &self.pages, m, text)?;

@@ -1,6 +1,6 @@
 ghost use Rattle.std.specs.Prelude.{◌≡◌};
-ghost use Rattle.mm_move_rules.specs.{same_key};
-ghost use Rattle.mm_reports.specs.Histories.{is_frame, is_key, is_about};
+ghost use Rattle.mm_move_rules.specs.{same_key, is_frame};
+ghost use Rattle.mm_reports.specs.Histories.{is_key, is_about};
 
 use mm_sentences::Facts;
 use mm_types::{Frame, Key};

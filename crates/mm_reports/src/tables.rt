@@ -1,6 +1,6 @@
 ghost use Rattle.std.specs.Prelude.{◌≡◌, ◌<◌, ◌^◌, ◌++◌, OnOk, sum, flat_map, codes};
 ghost use Rattle.mm_replay.specs.Standing.{life as life_of};
-ghost use Rattle.mm_reports.specs.{AreListsOf, name_of, sum_row, use_row, use_head, use_table, totals, slots_row, requests_row, set_row, set_rows};
+ghost use Rattle.mm_reports.specs.{AreListsOf, use_name, sum_row, use_row, use_head, use_table, totals, slots_row, requests_row, working_set_row, set_rows};
 ghost use Rattle.mm_reports.specs.{use_text};
 
 use crate::lists::{FrameLists, frame_lists};
@@ -21,8 +21,8 @@ const USES: [Use; 5] = [
     Use::Unused,
 ];
 
-fn name_of(usage: Use) -> &'static [u8]
-    ensures { result.now ≡ name_of usage }
+fn use_name(usage: Use) -> &'static [u8]
+    ensures { result.now ≡ use_name usage }
 {
     match usage {
         Use::ProcessPrivate => b"Process private         ",
@@ -67,7 +67,7 @@ fn put_use_row(
     ensures { OnOk result (text.new.items ≡ text.old.items ++ use_row (life_of life.now) usage) }
 {
     let numbers = cells(life, lists, usage);
-    put_sum_row(name_of(usage), &numbers, text)
+    put_sum_row(use_name(usage), &numbers, text)
 }
 
 fn put_use_rows(
@@ -157,7 +157,7 @@ fn put_requests(life: &Life, text: &mut Vec<u8>) -> Result<(), NoMemory>
 
 /// Writes the working set of the process of this number.
 fn put_set(pid: u64, set: ResidentSet, text: &mut Vec<u8>) -> Result<(), NoMemory>
-    ensures { OnOk result (text.new.items ≡ text.old.items ++ set_row pid set) }
+    ensures { OnOk result (text.new.items ≡ text.old.items ++ working_set_row pid set) }
 {
     let resident = u64::from(set.resident);
     let min = u64::from(set.min);

@@ -2,7 +2,7 @@ ghost use Rattle.std.specs.Prelude.{◌≡◌, ◌≤◌, ◌<◌, ◌^◌, leng
 ghost use Rattle.mm_move_rules.specs.{is_active, is_in_transition};
 ghost use Rattle.mm_replay.specs.Standing.{life as life_of};
 ghost use Rattle.mm_reports.specs.Listing.{AreListsOf, AreFew};
-ghost use Rattle.mm_reports.specs.Uses.{use_by, row_of, is_use, cells, listed_records};
+ghost use Rattle.mm_reports.specs.Uses.{use_by, row_of_use, is_use, cells, listed_records};
 
 use crate::lists::FrameLists;
 use mm_move_classes::has_request;
@@ -60,8 +60,8 @@ fn use_by(life: &Life, owner: Option<Key>, request: Request) -> Use
     }
 }
 
-fn row_of(usage: Use) -> u8
-    ensures { result ≡ row_of usage }
+fn row_of_use(usage: Use) -> u8
+    ensures { result ≡ row_of_use usage }
 {
     match usage {
         Use::ProcessPrivate => 0,
@@ -76,7 +76,7 @@ fn row_of(usage: Use) -> u8
 fn is_use(life: &Life, usage: Use, r: &Record) -> bool
     ensures { result ≡ is_use (life_of life.now) usage r.now }
 {
-    row_of(use_by(life, r.owner, r.request)) == row_of(usage)
+    row_of_use(use_by(life, r.owner, r.request)) == row_of_use(usage)
 }
 
 fn is_active(r: &Record) -> bool

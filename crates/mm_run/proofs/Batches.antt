@@ -8,7 +8,7 @@ use Rattle.mm_types.specs.declared.answers.Answer.TheVariants as answer
 use Rattle.mm_types.specs.declared.events.Event.TheVariants as line
 use Rattle.mm_line_moves.specs.{first_move}
 use Rattle.mm_run.specs.{Ending, Outset, Stage, NotBegun, Running, Follows, HasNoted, log_of, MachineIsMade, Moved, DecidedLine, last_stage}
-use Rattle.mm_run.specs.{answers_in, BreaksOff, AreDecided, IsEventNext, ClosesEvents, HeadIsMuted, HeadWantsMemory, MutesEvent, BulkStops, events_in, begins_ok, is_none, FaultCounts}
+use Rattle.mm_run.specs.{answers_in, BreaksOff, AreDecided, IsEventNext, ClosesEvents, HeadIsMuted, HeadWantsMemory, MutesEvent, BulkStops, events_in, begins_ok, is_no_answer, FaultCounts}
 use Rattle.mm_run.specs.{BreaksLine, IsBlamed, IsUnanswered, Handled, Stopped}
 use Rattle.mm_run.specs.declared.endings.Ending.TheVariants as ending
 use Rattle.mm_dispatch.specs.{Scene}
@@ -32,7 +32,7 @@ counted_more p xs l k e =
     ap (λ n. n + cond (p l.answer) 1 0) e ∙ sym (sum_by_push (λ x. cond (p x) 1 0) (answers_in xs) l.answer) ∙ ap (count_by p) (sym (map-append (λ (x : DecidedLine). x.answer) xs (l ∷ [])))
 
 -- one event more
-pub handled_more : (s z end : Stage) (es : List Event) (ok none : ℕ) (e : Event) (a : Answer) → Handled s es ok none z → Moved z e a end → HasNoted end → Handled s (es ++ e ∷ []) (ok + cond (begins_ok a) 1 0) (none + cond (is_none a) 1 0) end
+pub handled_more : (s z end : Stage) (es : List Event) (ok none : ℕ) (e : Event) (a : Answer) → Handled s es ok none z → Moved z e a end → HasNoted end → Handled s (es ++ e ∷ []) (ok + cond (begins_ok a) 1 0) (none + cond (is_no_answer a) 1 0) end
 handled_more s z end es ok none e a h m noted =
     let l = decided_event e a m.moves z end in
     record {
@@ -41,7 +41,7 @@ handled_more s z end es ok none e a h m noted =
       decided = decided_then s h.lines (l ∷ []) h.decided
           (record { follows = subst (λ (x : Stage). Follows x z) h.end_is (follows_here z); decided = m.decided }, noted, tt);
       ok_is = counted_more begins_ok h.lines l ok h.ok_is;
-      none_is = counted_more is_none h.lines l none h.none_is;
+      none_is = counted_more is_no_answer h.lines l none h.none_is;
       end_is = sym (last-append s h.lines (l ∷ []));
     }
 
@@ -119,7 +119,7 @@ module _ (m : MachineOf) (o : Outset) (s : Scene) (made : MachineIsMade m o s) w
           events_are = ap (λ xs. line.Machine m ∷ xs) h.events_are;
           decided = (first_next, noted, h.decided);
           ok_is = omega (arith, counted_first begins_ok h.lines);
-          none_is = omega (arith, counted_first is_none h.lines);
+          none_is = omega (arith, counted_first is_no_answer h.lines);
           end_is = h.end_is;
         }
 
@@ -155,7 +155,7 @@ module _ (m : MachineOf) (o : Outset) (s : Scene) (made : MachineIsMade m o s) w
 
 -- so many events of a list were decided, and the next
 pub handled_on : (s z end : Stage) (events : List Event) (i ok none x y : ℕ) (e : Event) (a : Answer) → i < length events → e ≡ get_or events i e → Handled s (take i events) ok none z → Moved z e a end → HasNoted end
-    → x ≡ cond (begins_ok a) 1 0 → y ≡ cond (is_none a) 1 0 → Handled s (take (i + 1) events) (ok + x) (none + y) end
+    → x ≡ cond (begins_ok a) 1 0 → y ≡ cond (is_no_answer a) 1 0 → Handled s (take (i + 1) events) (ok + x) (none + y) end
 handled_on s z end events i ok none x y e a within at h m noted p q =
     let more : take i events ++ e ∷ [] ≡ take (i + 1) events = ap (λ d. take i events ++ d ∷ []) at ∙ sym (take_more events i e within) in
     subst (λ (es : List Event). Handled s es (ok + x) (none + y) end) more

@@ -10,7 +10,7 @@ use Rattle.mm_world.specs.{charge, limit, first_world}
 use Rattle.mm_world.specs.World.{World}
 use Rattle.mm_line_moves.specs.{first_move}
 use Rattle.mm_run.specs.declared.endings.Ending.TheVariants as ending
-use Rattle.mm_run.specs.{reading_of, Outset, Stage, NotBegun, Running, HasNoted, log_of, IsDecided, MachineIsMade, DecidedLine, IsNext, WentOn}
+use Rattle.mm_run.specs.{reading_of, Outset, Stage, NotBegun, Running, HasNoted, log_of, IsDecided, MachineIsMade, DecidedLine, IsNextLine, WentOn}
 use Rattle.mm_run.specs.{Ending, CameToEnd, HoldsLine, IsUnanswered, outside, stand}
 use Rattle.mm_dispatch.specs.{Scene, is_machine}
 use Rattle.mm_run.proofs.Stories.{follows_here, grows_here}
@@ -35,7 +35,7 @@ module _ (held : Text) (len n : ℕ) (h : HasLine held len) (small : n < 1000000
     abbrev one : DecidedLine
     one = record { text = take len held; event = event; answer = said; moves = moves; before = w; after = w' }
 
-    next : IsNext n w one
+    next : IsNextLine n w one
     next = record { follows = follows_here w; says = record { is_line = is_line held len n h small behind; says = p; grammar = g }; decided = s }
 
     pub told_muted : (log_of w').failed ≡ true → CameToEnd (outside a t kept) (outside a t kept) (stand held n w) ending.MovesFault w'

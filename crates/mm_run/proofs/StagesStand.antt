@@ -14,7 +14,7 @@ use Rattle.mm_line_moves.specs.{StandsAlways, StandsBefore, Did, AnsweredAlike, 
 use Rattle.mm_line_moves.proofs.{one_log}
 use Rattle.mm_dispatch.specs.{Scene}
 use Rattle.mm_run.specs.{Outset, Stage, NotBegun, Running, Follows, with_flush, log_of, replay_of, MachineBegins, DecidesLine, StageStepped, StageNotes, IsDecided}
-use Rattle.mm_run.specs.{DecidedLine, IsNext, AreAnswered, GoesAlike, SameWorld, StageStands, last_stage}
+use Rattle.mm_run.specs.{DecidedLine, IsNextLine, AreAnswered, GoesAlike, SameWorld, StageStands, last_stage}
 
 -- ---- what each line keeps
 

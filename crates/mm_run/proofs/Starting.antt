@@ -19,7 +19,7 @@ use Rattle.mm_state.specs.{MachineStarts, joined_state}
 use Rattle.mm_pager.specs.{OwnOf, own_of, store_of, behind_of}
 use Rattle.mm_line_moves.specs.{Agrees, first_move}
 use Rattle.mm_dispatch.specs.{Scene}
-use Rattle.mm_run.specs.{AreOpened, Outset, MachineIsMade, Opened, Starts, device_seen, outset}
+use Rattle.mm_run.specs.{AreOpened, Outset, MachineIsMade, Opened, StartsFrom, device_seen, outset}
 
 nobody_waits : (n t : ℕ) → walked_or (slice_get (replicate n waiting.Nothing) t) ≡ Idle
 nobody_waits zero t = refl
@@ -101,7 +101,7 @@ module _ (m : MachineOf) (o : Outset) (paging files : DeviceOf) (slots blocks : 
 pub starts_over : {P F K : Type 0} (p : DeviceGhosts P) (f : DeviceGhosts F) (k : SinkGhosts K) (m : MachineOf) {x x' : P} {y y' : F} {w w' : K} {plan plan' : List NamedCalls} {failed : Bool} (z : StateOf)
     → AreOpened m (device_seen p x) (device_seen f y) → x' ≡ x → y' ≡ y → w' ≡ w → plan ≡ [] → plan' ≡ [] → failed ≡ false
     → MachineStarts m (record { bytes = k.taken w'; given = k.given w'; failed = failed; faults = k.faults w' }) (device_with (p.log x') plan (p.faults x')) (device_with (f.log y') plan' (f.faults y')) (p.blocks x') (f.blocks y') z
-    → (a b : ℕ) → a ≤ p.faults x → b ≤ f.faults y → Starts m (outset a b (k.taken w) (k.given w) (k.faults w)) z
+    → (a b : ℕ) → a ≤ p.faults x → b ≤ f.faults y → StartsFrom m (outset a b (k.taken w) (k.given w) (k.faults w)) z
 starts_over p f k m {x} {x'} {y} {y'} {w} {w'} {plan} {plan'} {failed} z opened xs ys ws named named' fresh noted a b later later' = record {
   paging = device_with (p.log x') plan (p.faults x');
   files = device_with (f.log y') plan' (f.faults y');
@@ -120,11 +120,11 @@ starts_over p f k m {x} {x'} {y} {y'} {w} {w'} {plan} {plan'} {failed} z opened 
 }
 
 -- over a state that starts a store of pages is new
-pub is_new : (m : MachineOf) (o : Outset) (z : StateOf) → Starts m o z → (c : Key → Option Page) (s : StoreOf) → c ≡ z.contents → s ≡ store_of z own → IsNew m c s
+pub is_new : (m : MachineOf) (o : Outset) (z : StateOf) → StartsFrom m o z → (c : Key → Option Page) (s : StoreOf) → c ≡ z.contents → s ≡ store_of z own → IsNew m c s
 is_new m o z h = new_over m o h.paging h.files h.slots h.blocks h.opened o.log z h.noted
 
 -- and the machine is made
-pub is_made : (m : MachineOf) (o : Outset) (z : StateOf) → Starts m o z → IsLegal (first_move m) unstarted → (y : World) (s : StoreOf) (b : Behind) → y ≡ first_world m → s ≡ store_of z own → b ≡ behind_of z
+pub is_made : (m : MachineOf) (o : Outset) (z : StateOf) → StartsFrom m o z → IsLegal (first_move m) unstarted → (y : World) (s : StoreOf) (b : Behind) → y ≡ first_world m → s ≡ store_of z own → b ≡ behind_of z
     → Agrees y s.report b → MachineIsMade m o (scene_of y s b)
 is_made m o z h = made_over m o h.paging h.files h.slots h.blocks h.opened z h.noted
 

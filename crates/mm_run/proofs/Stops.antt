@@ -8,7 +8,7 @@ use Rattle.mm_types.proofs.{append_nil, took_none, appended_none}
 use Rattle.mm_io.specs.{FitsLine, with_line_feed, text_of_lines, HasLine, IsLong, Filled}
 use Rattle.mm_io.proofs.{filled_none}
 use Rattle.mm_dispatch.specs.{Scene, is_machine}
-use Rattle.mm_run.specs.{Stage, Running, HasNoted, Follows, log_of, Ending, reading_of, BreaksLine, DecidedLine, HoldMovesOf, IsNext, TornText}
+use Rattle.mm_run.specs.{Stage, Running, HasNoted, Follows, log_of, Ending, reading_of, BreaksLine, DecidedLine, HoldMovesOf, IsNextLine, TornText}
 use Rattle.mm_run.specs.{ClosesRun, BreaksOff, TakesMemory, KeepsAnswers, IsMisplaced, WentOn, CameToEnd, SettlesRun, StandsAt, InputEndsAt, most_kept, outside}
 use Rattle.mm_run.specs.{stand}
 use Rattle.mm_run.specs.declared.endings.Ending.TheVariants as ending
@@ -86,7 +86,7 @@ module _ (held : Text) (len n : ℕ) (h : HasLine held len) (small : n < 1000000
   whole_line : held ++ [] ≡ text_of_lines (take len held ∷ []) ++ drop (len + 1) held
   whole_line = append_nil held ∙ split ∙ ap (λ xs. xs ++ drop (len + 1) held) (sym (append_nil (with_line_feed (take len held))))
 
-  module _ (a t : Option Text) (kept : Text) (w : Stage) (l : DecidedLine) (same : l.text ≡ take len held) (next : IsNext n w l) where
+  module _ (a t : Option Text) (kept : Text) (w : Stage) (l : DecidedLine) (same : l.text ≡ take len held) (next : IsNextLine n w l) where
     whole_text : held ++ [] ≡ text_of_lines (l.text ∷ []) ++ drop (len + 1) held
     whole_text = whole_line ∙ ap (λ (x : Text). text_of_lines (x ∷ []) ++ drop (len + 1) held) (sym same)
 

@@ -7,7 +7,7 @@ use Rattle.mm_types.specs.{Appended, Text, spelling, spelled, Answer, Event}
 use Rattle.mm_types.proofs.{append_nil, took_then, appended_none, appended_then}
 use Rattle.mm_io.specs.{with_line_feed, text_of_lines, Filled}
 use Rattle.mm_io.proofs.{filled_none}
-use Rattle.mm_run.specs.{Ending, Outset, Stage, NotBegun, Running, Follows, with_flush, log_of, replay_of, DecidedLine, IsNext, AreAnswered}
+use Rattle.mm_run.specs.{Ending, Outset, Stage, NotBegun, Running, Follows, with_flush, log_of, replay_of, DecidedLine, IsNextLine, AreAnswered}
 use Rattle.mm_run.specs.{HoldMovesOf, last_stage, texts_of, answers_in, IsFrontWithin, most_kept, ClosesRun, Left, IsLogLeft, TakesMemory, KeepsAnswers, WentOn}
 use Rattle.mm_run.specs.{CameToEnd, Comes, SettlesRun, StandsAt, Outside, RunStand, outside, stand}
 use Rattle.mm_run.specs.declared.endings.Ending.TheVariants as ending
@@ -66,7 +66,7 @@ bytes_follow a b h = ap (λ (s : Stage). (log_of s).bytes) h.same ∙ bytes_with
 pub failed_follows : (a b : Stage) → Follows a b → (log_of b).failed ≡ (log_of a).failed
 failed_follows a b h = ap (λ (s : Stage). (log_of s).failed) h.same ∙ failed_with (log_of b).given (log_of b).faults a
 
-next_from : (n : ℕ) (a b : Stage) (l : DecidedLine) → Follows a b → IsNext n b l → IsNext n a l
+next_from : (n : ℕ) (a b : Stage) (l : DecidedLine) → Follows a b → IsNextLine n b l → IsNextLine n a l
 next_from n a b l h u = record { follows = follows_then a b l.before h u.follows; says = u.says; decided = u.decided }
 
 answered_from : (n : ℕ) (a b : Stage) (ys : List DecidedLine) → Follows a b → AreAnswered n b ys → AreAnswered n a ys
@@ -157,7 +157,7 @@ grows_grew a b text g = record {
   given = g.gave.grows;
 }
 
-pub grows_next : (n : ℕ) (w : Stage) (l : DecidedLine) → IsNext n w l → LogGrows w l.after
+pub grows_next : (n : ℕ) (w : Stage) (l : DecidedLine) → IsNextLine n w l → LogGrows w l.after
 grows_next n w l h = grows_then w l.before l.after (grows_follows w l.before h.follows) (grows_grew l.before l.after (spelled_moves l.moves) h.decided.notes.grew)
 
 -- the lines that are kept stay so

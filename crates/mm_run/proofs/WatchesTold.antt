@@ -8,7 +8,7 @@ use Rattle.mm_world.specs.World.{World}
 use Rattle.mm_world.proofs.{spaces_keep, first_spaces}
 use Rattle.mm_dispatch.specs.{Scene}
 use Rattle.mm_run.specs.{Outset, Stage, NotBegun, Running, Follows, with_flush, log_of, MachineBegins, DecidesLine, StageStepped, AnsweredLine}
-use Rattle.mm_run.specs.{WriteMarks, write_marks_after, write_marks_over, no_write_marks, GivesWritten, DecidedLine, IsNext, AreAnswered, last_stage}
+use Rattle.mm_run.specs.{WriteMarks, write_marks_after, write_marks_over, no_write_marks, GivesWritten, DecidedLine, IsNextLine, AreAnswered, last_stage}
 use Rattle.mm_run.specs.{answered_lines}
 use Rattle.mm_run.proofs.WrittenPages.{Agrees, writes_to}
 use Rattle.mm_run.proofs.WatchLines.{step_agrees, watch_gives}
@@ -90,7 +90,7 @@ gives_at lines (Running s) (Running z) e a moves d h = watch_gives lines s.world
 record Among (n : ℕ) (old : Stage) (before : List DecidedLine) (l : DecidedLine) : Type 0 where
   pub answered : AreAnswered n old before
   pub number : ℕ
-  pub next : IsNext number (last_stage old before) l
+  pub next : IsNextLine number (last_stage old before) l
 
 among : (n : ℕ) (old : Stage) (before after : List DecidedLine) (l : DecidedLine) → AreAnswered n old (before ++ l ∷ after) → Among n old before l
 among n old [] after l u = record { answered = tt; number = n; next = u.0 }

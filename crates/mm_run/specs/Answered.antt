@@ -44,7 +44,7 @@ pub record LineSays (n : ℕ) (text : Text) (event : Event) : Type 0 where
   pub grammar : IsLineFor text event
 
 -- After n others and at this stage, the line is in the grammar, and is decided.
-pub record IsNext (n : ℕ) (old : Stage) (l : DecidedLine) : Type 0 where
+pub record IsNextLine (n : ℕ) (old : Stage) (l : DecidedLine) : Type 0 where
   pub follows : Follows old l.before
   pub says : LineSays n l.text l.event
   pub decided : IsDecided l.before l.event l.answer l.moves l.after
@@ -52,7 +52,7 @@ pub record IsNext (n : ℕ) (old : Stage) (l : DecidedLine) : Type 0 where
 -- Each line is decided from what the one before it left, and its moves were all written.
 abbrev pub AreAnswered : ℕ → Stage → List DecidedLine → Type 0
 AreAnswered n old [] = Unit {0}
-AreAnswered n old (l ∷ ls) = IsNext n old l × HasNoted l.after × AreAnswered (suc n) l.after ls
+AreAnswered n old (l ∷ ls) = IsNextLine n old l × HasNoted l.after × AreAnswered (suc n) l.after ls
 
 abbrev pub last_stage : Stage → List DecidedLine → Stage
 last_stage old [] = old
@@ -66,7 +66,7 @@ HoldMovesOf (l ∷ ls) bytes = IsFrontOf (log_of l.after).bytes bytes × HoldMov
 
 -- A line that was decided and not answered, since its moves could not all be written.
 pub record IsMuted (n : ℕ) (old : Stage) (l : DecidedLine) : Type 0 where
-  pub next : IsNext n old l
+  pub next : IsNextLine n old l
   pub failed : (log_of l.after).failed ≡ true
 
 -- Two runs went on from the same stage by the same line, with the same answer and world; where it

@@ -16,7 +16,7 @@ use Rattle.mm_run.specs.Ends.{Left, StageLeaves}
 use Rattle.mm_run.specs.Faults.{OpenFailed}
 use Rattle.mm_run.specs.Ran.{begun_at}
 use Rattle.mm_run.specs.Story.{IsBlamed, fault_counts_with}
-use Rattle.mm_run.specs.Bulk.{AreDecided, ClosesEvents, HeadIsMuted, HeadWantsMemory, BulkStops, events_in, begins_ok, is_none, charge_at, limit_at}
+use Rattle.mm_run.specs.Bulk.{AreDecided, ClosesEvents, HeadIsMuted, HeadWantsMemory, BulkStops, events_in, begins_ok, is_no_answer, charge_of_stage, limit_at}
 
 -- An event which does not make a machine.
 pub record IsLaterEvent (event : Event) : Type 0 where
@@ -48,7 +48,7 @@ pub record Handled (old : Stage) (events : List Event) (ok none : ℕ) (end : St
   pub events_are : events_in lines ≡ events
   pub decided : AreDecided old lines
   pub ok_is : ok ≡ count_by begins_ok (answers_in lines)
-  pub none_is : none ≡ count_by is_none (answers_in lines)
+  pub none_is : none ≡ count_by is_no_answer (answers_in lines)
   pub end_is : end ≡ last_stage old lines
 
 -- Some of these events were decided, and the next was not.
@@ -67,7 +67,7 @@ pub record Stopped (old : Stage) (events : List Event) (e : Ending) (end : Stage
 pub record Tallied (old : Stage) (events : List Event) (t : Tally) (end : Stage) : Type 0 where
   pub handled : Handled old events t.ok t.none end
   pub lines : t.lines ≡ length events
-  pub charge : t.charge ≡ charge_at end
+  pub charge : t.charge ≡ charge_of_stage end
   pub limit : t.limit ≡ limit_at end
 
 abbrev pub Finished : Stage → List Event → Result Tally Ending → Stage → Type 0

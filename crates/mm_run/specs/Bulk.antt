@@ -105,13 +105,13 @@ BulkStops _ left = ⊥
 abbrev pub begins_ok : Answer → Bool
 begins_ok a = bytes_eq (take 2 (answer_text a)) (codes "ok")
 
-abbrev pub is_none : Answer → Bool
-is_none answer.Nothing = true
-is_none _ = false
+abbrev pub is_no_answer : Answer → Bool
+is_no_answer answer.Nothing = true
+is_no_answer _ = false
 
-abbrev pub charge_at : Stage → ℕ
-charge_at (NotBegun o) = 0
-charge_at (Running s) = charge s.world
+abbrev pub charge_of_stage : Stage → ℕ
+charge_of_stage (NotBegun o) = 0
+charge_of_stage (Running s) = charge s.world
 
 abbrev pub limit_at : Stage → ℕ
 limit_at (NotBegun o) = 0
@@ -126,8 +126,8 @@ four_lines lines ok none charge limit =
 -- over some answers, and the world that they leave
 abbrev pub bulk_text : List Answer → Stage → Text
 bulk_text answers end =
-    four_lines (length answers) (count_by begins_ok answers) (count_by is_none answers)
-    (charge_at end) (limit_at end)
+    four_lines (length answers) (count_by begins_ok answers) (count_by is_no_answer answers)
+    (charge_of_stage end) (limit_at end)
 
 -- Where all events were decided and all moves given on, the four lines stand whole, with status 0,
 -- and are given on, or a front of them stands, with status 5; or the moves could not be given on:

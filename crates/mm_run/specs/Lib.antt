@@ -24,7 +24,7 @@ pub use Steps.{BreaksLine, DecidesLine, HoldsUnchanged, IsDecided, MachineBegins
 pub use Steps.{Moved, NoneFailed, SameWorld, StageNotes, StageStands, StageStepped, tells_paging}
 pub use Written.{AnsweredLine, GivesWritten, WriteMarks, keeps_after, no_write_marks}
 pub use Written.{write_marks_after, write_marks_over}
-pub use Answered.{AreAnswered, AreFaultless, DecidedLine, GoesAlike, HoldMovesOf, IsNext, MadeNamed}
+pub use Answered.{AreAnswered, AreFaultless, DecidedLine, GoesAlike, HoldMovesOf, IsNextLine, MadeNamed}
 pub use Answered.{answered_lines, answers_in, last_stage, moves_of, texts_of}
 pub use Texts.{IsFront, IsFrontWithin, ToldText, TornText, WroteText, last_text, most_kept}
 pub use Texts.{status_of}
@@ -37,16 +37,16 @@ pub use Ran.{Around, EndsHolding, EndsTelling, GaveAll, LogRan, RanOrRefused, So
 pub use Script.{EachSays, IsComplete, IsFault, IsScriptOf, IsVerdict}
 pub use Bulk.{AreDecided, BulkEnds, BulkRan, BulkRanOrRefused, BulkStops, ClosesEvents}
 pub use Bulk.{HeadIsMuted, HeadWantsMemory, IsBulk, MutesEvent, WantsEvent}
-pub use Bulk.{IsEventNext, IsNoBulk, begins_ok, below_64, bulk_text, events_in, four_lines, is_none}
+pub use Bulk.{IsEventNext, IsNoBulk, begins_ok, below_64, bulk_text, events_in, four_lines, is_no_answer}
 pub use Bulk.{word_value}
 pub use WordForms.{SaysForm}
 pub use Batch.{AccountsMoves, AreLater, BatchRan, Handled, IsLaterEvent, IsUnanswered, Stopped}
 pub use Batch.{Tallied}
-pub use Moments.{EndsRun, FindsLine, GoesOn, GoesOnOrEnds, HasBegun, HasNotedAll, HoldsLine, Input}
+pub use Moments.{EndsRun, FindsLine, GoesOn, GoesOnOrEnds, HasBegunLines, HasNotedAll, HoldsLine, Input}
 pub use Moments.{IsBetween, IsStill, KeepsWorld, Moment, Output, RunsShort, StepsBetween}
 pub use Moments.{fault_counts_of, moment, outside_of}
 pub use Settings.{AreOpened, ComesTo, HoldsMachine, Setting}
-pub use Starting.{HasStart, Opened, Starts, left_behind}
+pub use Starting.{HasStart, Opened, StartsFrom, left_behind}
 pub use Seen.{counts_seen, device_seen, input_seen, left_seen, moment_seen, open_failed}
 pub use Seen.{output_seen, outset_seen, outside_seen, seen, setting, sink_seen, world_seen}
 pub use Closing.{Closed, Drops, GaveMoves, SinkSeen, is_over}

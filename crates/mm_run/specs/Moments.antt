@@ -64,14 +64,14 @@ pub record HoldsLine (held : Text) (len : ℕ) : Type 0 where
   pub behind : length held < len + 1 + 4096
 
 -- A world over a store that pages has begun n lines, and can take another.
-pub record HasBegun (n : ℕ) (w : WorldSeen) : Type 0 where
+pub record HasBegunLines (n : ℕ) (w : WorldSeen) : Type 0 where
   pub count : w.line ≡ n
   pub ready : w.spent ≡ false
   pub paged : w.unpaged ≡ false
 
 -- It has noted all moves of these lines.
 pub record HasNotedAll (n : ℕ) (w : WorldSeen) : Type 0 where
-  pub begun : HasBegun n w
+  pub begun : HasBegunLines n w
   pub noted : w.scene.behind.log.failed ≡ false
 
 -- So it stands between two lines: of the bytes taken fewer than 4,096 are not used yet.

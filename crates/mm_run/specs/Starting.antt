@@ -23,7 +23,7 @@ pub record Opened (m : MachineOf) (o : Outset) (paging files : DeviceOf) (slots 
   pub files_later : o.files ≤ files.faults
 
 -- The state that a machine's first line made over such devices, noted after this outset's log.
-pub record Starts (m : MachineOf) (o : Outset) (z : StateOf) : Type 0 where
+pub record StartsFrom (m : MachineOf) (o : Outset) (z : StateOf) : Type 0 where
   pub paging : DeviceOf
   pub files : DeviceOf
   pub slots : List Page
@@ -35,7 +35,7 @@ pub record Starts (m : MachineOf) (o : Outset) (z : StateOf) : Type 0 where
 -- A state with which a run of the machine starts, from some outset.
 pub record HasStart (m : MachineOf) (z : StateOf) : Type 0 where
   pub outset : Outset
-  pub starts : Starts m outset z
+  pub starts : StartsFrom m outset z
 
 -- What a state leaves: its log of moves and both devices.
 abbrev pub left_behind : StateOf → Left

@@ -7,11 +7,11 @@ ghost use Rattle.mm_run.specs.Steps.{MachineIsMade};
 ghost use Rattle.mm_run.specs.Ran.{around};
 ghost use Rattle.mm_run.specs.Story.{fault_counts_with};
 ghost use Rattle.mm_run.specs.Faults.{IsAccounted};
-ghost use Rattle.mm_run.specs.Bulk.{BulkRan, begins_ok, is_none, four_lines};
+ghost use Rattle.mm_run.specs.Bulk.{BulkRan, begins_ok, is_no_answer, four_lines};
 ghost use Rattle.mm_run.specs.Batch.{AreLater, Finished, BatchRan, AccountsMoves, BatchEnds};
-ghost use Rattle.mm_run.specs.Moments.{HasBegun};
+ghost use Rattle.mm_run.specs.Moments.{HasBegunLines};
 ghost use Rattle.mm_run.specs.Settings.{AreOpened};
-ghost use Rattle.mm_run.specs.Starting.{Starts, HasStart, left_behind};
+ghost use Rattle.mm_run.specs.Starting.{StartsFrom, HasStart, left_behind};
 ghost use Rattle.mm_run.specs.Seen.{device_seen, left_seen, open_failed, world_seen};
 
 use crate::decisions::decide;
@@ -63,8 +63,8 @@ fn begins_ok(answer: &Answer) -> bool
 }
 
 /// Whether an answer is `none`.
-fn is_none(answer: &Answer) -> bool
-    ensures { result ≡ is_none answer.now }
+fn is_no_answer(answer: &Answer) -> bool
+    ensures { result ≡ is_no_answer answer.now }
 {
     matches!(answer, Answer::Nothing)
 }
@@ -86,7 +86,7 @@ fn decide_events<G: FlushesMoves>(
 ) -> Result<Tally, Ending>
     requires later { AreLater events.now }
     requires few { length events.now < 1000000 }
-    requires begun { HasBegun 1 (world_seen world.old) }
+    requires begun { HasBegunLines 1 (world_seen world.old) }
     ensures came { (o : Outset) → MachineIsMade machine o (scene world.old) →
         Finished (NotBegun o) (event.Machine machine ∷ events.now) result
         (Running (scene world.new)) }
@@ -107,7 +107,7 @@ fn decide_events<G: FlushesMoves>(
         match decide(alloc, n, event, world, &mut answer) {
             Ok(()) => {
                 ok += one_if(begins_ok(&answer));
-                none += one_if(is_none(&answer));
+                none += one_if(is_no_answer(&answer));
             }
             Err(ending) => return Err(ending),
         }
@@ -132,9 +132,9 @@ fn decide_over<T: StateCalls>(
     requires later { AreLater events.now }
     requires few { length events.now < 1000000 }
     requires starts { HasStart machine (T.shown state) }
-    ensures came { (o : Outset) → Starts machine o (T.shown state) → BatchRan (NotBegun o)
+    ensures came { (o : Outset) → StartsFrom machine o (T.shown state) → BatchRan (NotBegun o)
         (event.Machine machine ∷ events.now) result.0 (left_behind (T.shown result.1)) }
-    ensures faults { (o : Outset) → Starts machine o (T.shown state) →
+    ensures faults { (o : Outset) → StartsFrom machine o (T.shown state) →
         AccountsMoves result.0 ⊥ o.log.faults (T.shown result.1).log.faults }
     ensures loans { T.loans result.1 ≡ T.loans state }
 {

@@ -1,7 +1,7 @@
 ghost use Rattle.std.specs.Prelude.{◌≡◌, ◌≢◌, ◌⊎◌, ◌≤◌, ◌+◌, ℕ, true, false, [], length, IfErr, OnOk};
 ghost use Rattle.mm_dispatch.specs.{loans, world_behind, scene};
-ghost use Rattle.mm_run.specs.{Outset, NotBegun, Running, outset, MachineIsMade, CameToEnd, Comes, IsBlamed, stand, fault_counts_with, HasBegun, IsStill};
-ghost use Rattle.mm_run.specs.{HoldsMachine, AreOpened, Starts, HasStart, left_behind, ComesTo, counts_seen, device_seen, left_seen, open_failed};
+ghost use Rattle.mm_run.specs.{Outset, NotBegun, Running, outset, MachineIsMade, CameToEnd, Comes, IsBlamed, stand, fault_counts_with, HasBegunLines, IsStill};
+ghost use Rattle.mm_run.specs.{HoldsMachine, AreOpened, StartsFrom, HasStart, left_behind, ComesTo, counts_seen, device_seen, left_seen, open_failed};
 ghost use Rattle.mm_run.specs.{outside_seen, setting, world_seen};
 
 use crate::answers::Kept;
@@ -67,7 +67,7 @@ fn answer_all<G: FlushesMoves, S: Source, O: Sink>(
 ) -> Ending
     requires line { HoldsMachine held.old len machine }
     requires room { length kept.old + 256 ≤ 65536 }
-    requires begun { HasBegun 1 (world_seen world.old) }
+    requires begun { HasBegunLines 1 (world_seen world.old) }
     ensures came { (o : Outset) → MachineIsMade machine o (scene world.old) → CameToEnd
         (outside_seen S.Source O.Sink source.old out.old kept.old)
         (outside_seen S.Source O.Sink source.new out.new kept.new)
@@ -104,11 +104,11 @@ fn answer_over<T: StateCalls, S: Source, O: Sink>(
     requires line { HoldsMachine held.old len machine }
     requires room { length kept.old + 256 ≤ 65536 }
     requires starts { HasStart machine (T.shown state) }
-    ensures came { (o : Outset) → Starts machine o (T.shown state) → Comes
+    ensures came { (o : Outset) → StartsFrom machine o (T.shown state) → Comes
         (outside_seen S.Source O.Sink source.old out.old kept.old)
         (outside_seen S.Source O.Sink source.new out.new kept.new)
         (stand held.old 0 (NotBegun o)) result.0 (left_behind (T.shown result.1)) }
-    ensures faults { (o : Outset) → Starts machine o (T.shown state) →
+    ensures faults { (o : Outset) → StartsFrom machine o (T.shown state) →
         IsBlamed result.0 ⊥
         (fault_counts_with (S.faults source.old) (O.faults out.old) o.log.faults)
         (fault_counts_with (S.faults source.new) (O.faults out.new)

@@ -9,7 +9,7 @@ use Rattle.mm_types.specs.declared.moves.LineKind.TheVariants as kind
 use Rattle.mm_types.specs.declared.moves.Stored.TheVariants as stored
 use Rattle.mm_types.specs.declared.moves.Move.TheVariants as move
 use Rattle.mm_move_rules.specs.{FrameLife, record_at, is_legal, may_unmap}
-use Rattle.mm_sentences.specs.{holds, parts_of, first_failing, refusal, is_tested, are_tested, all_hold, Part}
+use Rattle.mm_sentences.specs.{part_holds, parts_of, first_failing, refusal, is_tested, are_tested, all_hold, Part}
 use Rattle.mm_sentences.specs.declared.parts.Part.TheVariants as part
 
 -- ---- the condition is its parts
@@ -47,23 +47,23 @@ of2_and_3 true false c d e = refl
 of2_and_3 false b c d e = refl
 
 module _ (l : FrameLife) (p q : Part) where
-  by2 : (holds l p && holds l q) ≡ all_hold l (p ∷ q ∷ [])
-  by2 = of2 (holds l p) (holds l q)
+  by2 : (part_holds l p && part_holds l q) ≡ all_hold l (p ∷ q ∷ [])
+  by2 = of2 (part_holds l p) (part_holds l q)
 
-  by3 : (r : Part) → ((holds l p && holds l q) && holds l r) ≡ all_hold l (p ∷ q ∷ r ∷ [])
-  by3 r = of3 (holds l p) (holds l q) (holds l r)
+  by3 : (r : Part) → ((part_holds l p && part_holds l q) && part_holds l r) ≡ all_hold l (p ∷ q ∷ r ∷ [])
+  by3 r = of3 (part_holds l p) (part_holds l q) (part_holds l r)
 
-  by4 : (r s : Part) → (((holds l p && holds l q) && holds l r) && holds l s) ≡ all_hold l (p ∷ q ∷ r ∷ s ∷ [])
-  by4 r s = of4 (holds l p) (holds l q) (holds l r) (holds l s)
+  by4 : (r s : Part) → (((part_holds l p && part_holds l q) && part_holds l r) && part_holds l s) ≡ all_hold l (p ∷ q ∷ r ∷ s ∷ [])
+  by4 r s = of4 (part_holds l p) (part_holds l q) (part_holds l r) (part_holds l s)
 
-  by5 : (r s t : Part) → ((((holds l p && holds l q) && holds l r) && holds l s) && holds l t) ≡ all_hold l (p ∷ q ∷ r ∷ s ∷ t ∷ [])
-  by5 r s t = of5 (holds l p) (holds l q) (holds l r) (holds l s) (holds l t)
+  by5 : (r s t : Part) → ((((part_holds l p && part_holds l q) && part_holds l r) && part_holds l s) && part_holds l t) ≡ all_hold l (p ∷ q ∷ r ∷ s ∷ t ∷ [])
+  by5 r s t = of5 (part_holds l p) (part_holds l q) (part_holds l r) (part_holds l s) (part_holds l t)
 
-  by2_and_2 : (r s : Part) → ((holds l p && holds l q) && (holds l r && holds l s)) ≡ all_hold l (p ∷ q ∷ r ∷ s ∷ [])
-  by2_and_2 r s = of2_and_2 (holds l p) (holds l q) (holds l r) (holds l s)
+  by2_and_2 : (r s : Part) → ((part_holds l p && part_holds l q) && (part_holds l r && part_holds l s)) ≡ all_hold l (p ∷ q ∷ r ∷ s ∷ [])
+  by2_and_2 r s = of2_and_2 (part_holds l p) (part_holds l q) (part_holds l r) (part_holds l s)
 
-  by2_and_3 : (r s t : Part) → ((holds l p && holds l q) && ((holds l r && holds l s) && holds l t)) ≡ all_hold l (p ∷ q ∷ r ∷ s ∷ t ∷ [])
-  by2_and_3 r s t = of2_and_3 (holds l p) (holds l q) (holds l r) (holds l s) (holds l t)
+  by2_and_3 : (r s t : Part) → ((part_holds l p && part_holds l q) && ((part_holds l r && part_holds l s) && part_holds l t)) ≡ all_hold l (p ∷ q ∷ r ∷ s ∷ t ∷ [])
+  by2_and_3 r s t = of2_and_3 (part_holds l p) (part_holds l q) (part_holds l r) (part_holds l s) (part_holds l t)
 
 pub condition : (l : FrameLife) (m : Move) → is_legal l m ≡ all_hold l (parts_of m)
 condition l (move.At n (kind.Machine frames slots depth blocks)) =
@@ -103,7 +103,7 @@ none_then false b p o e = refl
 
 pub none_fails : (l : FrameLife) (ps : List Part) → is_none (first_failing l ps) ≡ all_hold l ps
 none_fails l [] = refl
-none_fails l (p ∷ ps) = none_then (holds l p) (all_hold l ps) p (first_failing l ps) (none_fails l ps)
+none_fails l (p ∷ ps) = none_then (part_holds l p) (all_hold l ps) p (first_failing l ps) (none_fails l ps)
 
 pub legal_exactly : (l : FrameLife) (m : Move) → is_none (refusal l m) ≡ is_legal l m
 legal_exactly l m = none_fails l (parts_of m) ∙ sym (condition l m)
@@ -153,37 +153,37 @@ stop true p o e = absurd (false≢true (sym e))
 stop false p o e = refl
 
 module _ (l : FrameLife) (ps : List Part) (last d : Part) (at : ℕ) (within : at < length ps) where
-  pub part_passed : holds l (get_or ps at d) ≡ true
+  pub part_passed : part_holds l (get_or ps at d) ≡ true
       → first_failing l (drop at ps ++ last ∷ []) ≡ first_failing l (drop (at + 1) ps ++ last ∷ [])
   part_passed e = ap (λ xs. first_failing l (xs ++ last ∷ [])) (drop_more ps at d within)
-      ∙ pass (holds l (get_or ps at d)) (get_or ps at d) (first_failing l (drop (at + 1) ps ++ last ∷ [])) e
+      ∙ pass (part_holds l (get_or ps at d)) (get_or ps at d) (first_failing l (drop (at + 1) ps ++ last ∷ [])) e
 
-  pub part_stops : holds l (get_or ps at d) ≡ false
+  pub part_stops : part_holds l (get_or ps at d) ≡ false
       → first_failing l (drop at ps ++ last ∷ []) ≡ Some (get_or ps at d)
   part_stops e = ap (λ xs. first_failing l (xs ++ last ∷ [])) (drop_more ps at d within)
-      ∙ stop (holds l (get_or ps at d)) (get_or ps at d) (first_failing l (drop (at + 1) ps ++ last ∷ [])) e
+      ∙ stop (part_holds l (get_or ps at d)) (get_or ps at d) (first_failing l (drop (at + 1) ps ++ last ∷ [])) e
 
-  pub all_passed : holds l (get_or ps at d) ≡ true
+  pub all_passed : part_holds l (get_or ps at d) ≡ true
       → all_hold l (drop at ps ++ last ∷ []) ≡ all_hold l (drop (at + 1) ps ++ last ∷ [])
   all_passed e = ap (λ xs. all_hold l (xs ++ last ∷ [])) (drop_more ps at d within)
-      ∙ some_hold (holds l (get_or ps at d)) (all_hold l (drop (at + 1) ps ++ last ∷ [])) e
+      ∙ some_hold (part_holds l (get_or ps at d)) (all_hold l (drop (at + 1) ps ++ last ∷ [])) e
 
 pub last_fails : (l : FrameLife) (ps : List Part) (last : Part) (at : ℕ) → length ps ≤ at → all_hold l (drop at ps ++ last ∷ []) ≡ false
     → first_failing l (drop at ps ++ last ∷ []) ≡ Some last
 last_fails l ps last at over e =
     ap (λ xs. first_failing l (xs ++ last ∷ [])) (drop_all at ps over)
-    ∙ stop (holds l last) last None (alone_false (holds l last) (ap (λ xs. all_hold l (xs ++ last ∷ [])) (sym (drop_all at ps over)) ∙ e))
+    ∙ stop (part_holds l last) last None (alone_false (part_holds l last) (ap (λ xs. all_hold l (xs ++ last ∷ [])) (sym (drop_all at ps over)) ∙ e))
 
 -- the part that is told fails
 told_fails : (b : Bool) (q p : Part) (o : Option Part) (P : Part → Bool) → P q ≡ b → (o ≡ Some p → P p ≡ false) → cond b o (Some q) ≡ Some p → P p ≡ false
 told_fails true q p o P same later e = later e
 told_fails false q p o P same later e = ap P (sym (same_Some q p e)) ∙ same
 
-first_fails : (l : FrameLife) (ps : List Part) (p : Part) → first_failing l ps ≡ Some p → holds l p ≡ false
+first_fails : (l : FrameLife) (ps : List Part) (p : Part) → first_failing l ps ≡ Some p → part_holds l p ≡ false
 first_fails l [] p e = absurd (none-some p e)
-first_fails l (q ∷ ps) p e = told_fails (holds l q) q p (first_failing l ps) (holds l) refl (first_fails l ps p) e
+first_fails l (q ∷ ps) p e = told_fails (part_holds l q) q p (first_failing l ps) (part_holds l) refl (first_fails l ps p) e
 
-pub refusal_fails : (l : FrameLife) (m : Move) (p : Part) → refusal l m ≡ Some p → holds l p ≡ false
+pub refusal_fails : (l : FrameLife) (m : Move) (p : Part) → refusal l m ≡ Some p → part_holds l p ≡ false
 refusal_fails l m p e = first_fails l (parts_of m) p e
 
 pub ruleset parted = (condition, refusal_fails)

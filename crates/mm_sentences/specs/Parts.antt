@@ -77,65 +77,65 @@ abbrev pub may_end : FrameLife → Place → Bool
 may_end l place =
     unwrap_or (option_map (λ f. may_unmap l place (record_at l.frames f.0)) (l.valid place)) false
 
-abbrev pub holds : FrameLife → Part → Bool
-holds l (part.NextLine n) = n == l.line + 1
-holds l part.InDepth = nat_le (length l.flight) l.machine.depth
-holds l part.FirstLine = l.line == 0
-holds l (part.MachineRange k) = is_range k
-holds l part.Started = nat_lt 0 l.line
-holds l (part.NextProcess pid) = pid.0 == length l.sets + 1
-holds l (part.FewProcesses pid) = nat_le pid.0 64
-holds l (part.SomeSlots n) = nat_le 1 n
-holds l (part.FewSlots n) = nat_le (l.machine.slots + n) 262144
-holds l (part.NotLive k) = not (is_live l k)
-holds l part.Commit = nat_lt l.paging_keys (limit_of l.machine)
-holds l (part.CallOrCopy k) = is_call l.kind || may_copy l k
-holds l part.Call = is_call l.kind
-holds l (part.OfSection k) = is_shared k
-holds l (part.BlockThere b) = nat_lt b.0 l.machine.blocks
-holds l (part.BlockNew b) = not (l.added b.0)
-holds l part.CallOrUnbind = is_call l.kind || is_unbind l.kind
-holds l (part.OfPagingFile k) = l.paging k
-holds l (part.Unmapped k) = is_unmapped l (l.stands k)
-holds l (part.FirstFree f) = is_first f.0 l.frames.free
-holds l part.Zeroes = is_zeroer l.kind || (is_touch l.kind && is_empty l.frames.zeroed)
-holds l (part.FirstStandby f) = is_first f.0 l.frames.standby
-holds l part.ZeroedEmpty = is_empty l.frames.zeroed
-holds l part.FreeEmpty = is_empty l.frames.free
-holds l part.Access = is_touch l.kind
-holds l (part.FirstZeroed f) = is_first f.0 l.frames.zeroed
-holds l (part.DemandZero k) = is_zero (l.stands k)
-holds l (part.FirstToRead f) =
+abbrev pub part_holds : FrameLife → Part → Bool
+part_holds l (part.NextLine n) = n == l.line + 1
+part_holds l part.InDepth = nat_le (length l.flight) l.machine.depth
+part_holds l part.FirstLine = l.line == 0
+part_holds l (part.MachineRange k) = is_range k
+part_holds l part.Started = nat_lt 0 l.line
+part_holds l (part.NextProcess pid) = pid.0 == length l.sets + 1
+part_holds l (part.FewProcesses pid) = nat_le pid.0 64
+part_holds l (part.SomeSlots n) = nat_le 1 n
+part_holds l (part.FewSlots n) = nat_le (l.machine.slots + n) 262144
+part_holds l (part.NotLive k) = not (is_live l k)
+part_holds l part.Commit = nat_lt l.paging_keys (limit_of l.machine)
+part_holds l (part.CallOrCopy k) = is_call l.kind || may_copy l k
+part_holds l part.Call = is_call l.kind
+part_holds l (part.OfSection k) = is_shared k
+part_holds l (part.BlockThere b) = nat_lt b.0 l.machine.blocks
+part_holds l (part.BlockNew b) = not (l.added b.0)
+part_holds l part.CallOrUnbind = is_call l.kind || is_unbind l.kind
+part_holds l (part.OfPagingFile k) = l.paging k
+part_holds l (part.Unmapped k) = is_unmapped l (l.stands k)
+part_holds l (part.FirstFree f) = is_first f.0 l.frames.free
+part_holds l part.Zeroes = is_zeroer l.kind || (is_touch l.kind && is_empty l.frames.zeroed)
+part_holds l (part.FirstStandby f) = is_first f.0 l.frames.standby
+part_holds l part.ZeroedEmpty = is_empty l.frames.zeroed
+part_holds l part.FreeEmpty = is_empty l.frames.free
+part_holds l part.Access = is_touch l.kind
+part_holds l (part.FirstZeroed f) = is_first f.0 l.frames.zeroed
+part_holds l (part.DemandZero k) = is_zero (l.stands k)
+part_holds l (part.FirstToRead f) =
     is_first f.0 l.frames.free || (is_empty l.frames.free && is_first f.0 l.frames.zeroed)
-holds l (part.OnDevice k) = is_stored (l.stands k)
-holds l part.AccessReads = is_access l.kind || (is_thread l.kind && has_depth l)
-holds l (part.BeingRead f) = is_read (record_at l.frames f.0).request
-holds l part.IoOrAccess = is_io l.kind || is_access l.kind
-holds l (part.FitsPlace f p) = owner_is (fits_place p) (record_at l.frames f.0)
-holds l (part.NotBeingRead f) = not (is_read (record_at l.frames f.0).request)
-holds l (part.NotValid p) = is_none (l.valid p)
-holds l (part.AccessOf pid) = touches pid.0 l.kind
-holds l (part.BelowMax pid) = is_below_max (set_of l pid.0)
-holds l (part.Valid p) = is_some (l.valid p)
-holds l (part.MayEnd p) = may_end l p
-holds l (part.Active f) = nat_lt 0 (record_at l.frames f.0).shares
-holds l (part.Clean f) = is_clean (record_at l.frames f.0)
-holds l (part.OnModified f) = is_on f.0 l.frames.modified
-holds l (part.HoldsPaging f) = owner_is l.paging (record_at l.frames f.0)
-holds l (part.LowestSlot s) = is_lowest s.0 l.free_slots
-holds l part.WritesSlot = is_access l.kind || (is_writer l.kind && has_depth l)
-holds l (part.Changed f) = (record_at l.frames f.0).changed
-holds l (part.Owned f) = is_some (record_at l.frames f.0).owner
-holds l (part.Quiet f) = not (has_request (record_at l.frames f.0).request)
-holds l (part.OfBlock f b) = is_block b.0 (record_at l.frames f.0).backing
-holds l (part.WritesBlock f) = may_write_block l f.0
-holds l (part.BeingWritten f) = is_write (record_at l.frames f.0).request
-holds l part.IoAccessOrCall = is_io l.kind || is_access l.kind || is_call l.kind
+part_holds l (part.OnDevice k) = is_stored (l.stands k)
+part_holds l part.AccessReads = is_access l.kind || (is_thread l.kind && has_depth l)
+part_holds l (part.BeingRead f) = is_read (record_at l.frames f.0).request
+part_holds l part.IoOrAccess = is_io l.kind || is_access l.kind
+part_holds l (part.FitsPlace f p) = owner_is (fits_place p) (record_at l.frames f.0)
+part_holds l (part.NotBeingRead f) = not (is_read (record_at l.frames f.0).request)
+part_holds l (part.NotValid p) = is_none (l.valid p)
+part_holds l (part.AccessOf pid) = touches pid.0 l.kind
+part_holds l (part.BelowMax pid) = is_below_max (set_of l pid.0)
+part_holds l (part.Valid p) = is_some (l.valid p)
+part_holds l (part.MayEnd p) = may_end l p
+part_holds l (part.Active f) = nat_lt 0 (record_at l.frames f.0).shares
+part_holds l (part.Clean f) = is_clean (record_at l.frames f.0)
+part_holds l (part.OnModified f) = is_on f.0 l.frames.modified
+part_holds l (part.HoldsPaging f) = owner_is l.paging (record_at l.frames f.0)
+part_holds l (part.LowestSlot s) = is_lowest s.0 l.free_slots
+part_holds l part.WritesSlot = is_access l.kind || (is_writer l.kind && has_depth l)
+part_holds l (part.Changed f) = (record_at l.frames f.0).changed
+part_holds l (part.Owned f) = is_some (record_at l.frames f.0).owner
+part_holds l (part.Quiet f) = not (has_request (record_at l.frames f.0).request)
+part_holds l (part.OfBlock f b) = is_block b.0 (record_at l.frames f.0).backing
+part_holds l (part.WritesBlock f) = may_write_block l f.0
+part_holds l (part.BeingWritten f) = is_write (record_at l.frames f.0).request
+part_holds l part.IoAccessOrCall = is_io l.kind || is_access l.kind || is_call l.kind
 
 -- the first of these parts that does not hold
 abbrev pub first_failing : FrameLife → List Part → Option Part
 first_failing l [] = None
-first_failing l (p ∷ ps) = if holds l p then first_failing l ps else Some p
+first_failing l (p ∷ ps) = if part_holds l p then first_failing l ps else Some p
 
 -- the part for which a move is not legal; none exactly where it is
 abbrev pub refusal : FrameLife → Move → Option Part

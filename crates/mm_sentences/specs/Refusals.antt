@@ -64,12 +64,12 @@ depth_is l =
     decimal (length l.flight)
     ++ counted_words (codes " requests are in flight, and the depth is ") l.machine.depth
 
-abbrev pub stands_in : Key → Held → Text
-stands_in k (held.Frame f) = page_is k (counted_words (codes " is in frame ") f.0)
-stands_in k (held.Slot s) = page_is k (counted_words (codes " is in slot ") s.0)
-stands_in k (held.Block b) = page_is k (counted_words (codes " is in block ") b.0)
-stands_in k held.Zero = page_is k (codes " is demand-zero")
-stands_in k held.Dead = codes "there is no " ++ page_is k []
+abbrev pub stands_text : Key → Held → Text
+stands_text k (held.Frame f) = page_is k (counted_words (codes " is in frame ") f.0)
+stands_text k (held.Slot s) = page_is k (counted_words (codes " is in slot ") s.0)
+stands_text k (held.Block b) = page_is k (counted_words (codes " is in block ") b.0)
+stands_text k held.Zero = page_is k (codes " is demand-zero")
+stands_text k held.Dead = codes "there is no " ++ page_is k []
 
 -- where a page is valid, by where it stands
 abbrev pub mapped_at : FrameLife → Key → Held → Text
@@ -114,8 +114,8 @@ keeps_place l pid =
     else if is_access l.kind then codes "frames are left on zeroed, free or standby"
     else line_is l (counted_words (codes " ends no place of process ") pid)
 
-abbrev pub no_paging : FrameLife → Key → Text
-no_paging l k =
+abbrev pub no_paging_text : FrameLife → Key → Text
+no_paging_text l k =
     if is_live l k then page_is k (codes " is a file's") else codes "there is no " ++ page_is k []
 
 abbrev pub request_is : Bool → Text
@@ -158,7 +158,7 @@ part_text l (part.OfSection k) = page_is k (codes " is no page of a file")
 part_text l (part.BlockThere b) = about (codes "there are ") l.machine.blocks (codes " file blocks")
 part_text l (part.BlockNew b) = about (codes "file block ") b.0 (codes " had a page before")
 part_text l part.CallOrUnbind = line_is l (codes " is no call and no unbind")
-part_text l (part.OfPagingFile k) = no_paging l k
+part_text l (part.OfPagingFile k) = no_paging_text l k
 part_text l (part.Unmapped k) = mapped_at l k (l.stands k)
 part_text l (part.FirstFree f) = not_first (codes "free") l.frames.free f
 part_text l part.Zeroes =
@@ -169,12 +169,12 @@ part_text l part.ZeroedEmpty = not_empty (codes "zeroed") l.frames.zeroed
 part_text l part.FreeEmpty = not_empty (codes "free") l.frames.free
 part_text l part.Access = line_is l (codes " is no access")
 part_text l (part.FirstZeroed f) = not_first (codes "zeroed") l.frames.zeroed f
-part_text l (part.DemandZero k) = stands_in k (l.stands k)
+part_text l (part.DemandZero k) = stands_text k (l.stands k)
 part_text l (part.FirstToRead f) =
     if is_empty l.frames.free
     then codes "free is empty, and " ++ not_first (codes "zeroed") l.frames.zeroed f
     else not_first (codes "free") l.frames.free f
-part_text l (part.OnDevice k) = stands_in k (l.stands k)
+part_text l (part.OnDevice k) = stands_text k (l.stands k)
 part_text l part.AccessReads =
     if is_thread l.kind then depth_is l else line_is l (codes " is no access")
 part_text l (part.BeingRead f) = frame_is f (codes " is not being read")
@@ -213,5 +213,5 @@ refusal_text l m = part_words l (refusal l m)
 
 -- `: give 0 p1.16: frame 0 is not the first zeroed frame; zeroed: none`, behind the number of its
 -- line
-abbrev pub why_text : FrameLife → Move → Text
-why_text l m = codes ": " ++ (move_text m ++ (codes ": " ++ refusal_text l m))
+abbrev pub why_not : FrameLife → Move → Text
+why_not l m = codes ": " ++ (move_text m ++ (codes ": " ++ refusal_text l m))

@@ -99,13 +99,14 @@ value_text addressed x after name =
 
 -- The text from a place on, where `piece` stands between the last brace and that place. What stands
 -- before an opening brace or the end stays; what stands before a closing one is a name.
-abbrev pub filled : (Text → Text) → Text → Text → Text
-filled value piece [] = piece
-filled value piece (c ∷ cs) =
-    let behind = filled value [] cs in
-    let longer = filled value (piece ++ c ∷ []) cs in
+abbrev pub filled_in : (Text → Text) → Text → Text → Text
+filled_in value piece [] = piece
+filled_in value piece (c ∷ cs) =
+    let behind = filled_in value [] cs in
+    let longer = filled_in value (piece ++ c ∷ []) cs in
     if c == 0x7B then piece ++ behind else if c == 0x7D then value piece ++ behind else longer
 
 -- with addresses behind places, or without; `after` is the state after the move
 abbrev pub sentence_text : Bool → Class → Facts → FrameLife → Text
-sentence_text addressed class x after = filled (value_text addressed x after) [] (sentence_of class)
+sentence_text addressed class x after =
+    filled_in (value_text addressed x after) [] (sentence_of class)

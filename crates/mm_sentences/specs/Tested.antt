@@ -2,7 +2,7 @@
 use Rattle.std.specs.Prelude.{ℕ, zero, suc, not, Bool, true, false, ◌&&◌, List, [], ◌∷◌}
 use Rattle.std.specs.List.{list_all}
 use Rattle.mm_move_rules.specs.{FrameLife}
-use Rattle.mm_sentences.specs.Parts.{holds}
+use Rattle.mm_sentences.specs.Parts.{part_holds}
 use Rattle.mm_sentences.specs.declared.parts.Part.{Part}
 use Rattle.mm_sentences.specs.declared.parts.Part.TheVariants as part
 
@@ -30,7 +30,7 @@ are_tested parts = list_all is_tested parts
 -- each of the parts holds
 abbrev pub all_hold : FrameLife → List Part → Bool
 all_hold l [] = true
-all_hold l (p ∷ ps) = holds l p && all_hold l ps
+all_hold l (p ∷ ps) = part_holds l p && all_hold l ps
 
 -- none of the first slots is free
 abbrev pub none_free : ℕ → List Bool → Bool

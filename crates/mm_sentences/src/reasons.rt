@@ -4,8 +4,8 @@ ghost use Rattle.mm_replay.specs.Standing.{life as life_of};
 ghost use Rattle.mm_replay.specs.{frames_on};
 ghost use Rattle.mm_move_rules.specs.{is_read, set_of, move_text, place_onto};
 ghost use Rattle.mm_sentences.specs.{name_of_list, about, counted_words, line_is, frame_is, page_is, place_is, first_is, not_first, not_empty};
-ghost use Rattle.mm_sentences.specs.{depth_is, stands_in, mapped_at, holds_what, pages_are, set_is, no_process, at_max, at_min, keeps_place};
-ghost use Rattle.mm_sentences.specs.{no_paging, request_is, not_lowest, not_modified, keeps_block, part_text, part_words, refusal_text, why_text};
+ghost use Rattle.mm_sentences.specs.{depth_is, stands_text, mapped_at, holds_what, pages_are, set_is, no_process, at_max, at_min, keeps_place};
+ghost use Rattle.mm_sentences.specs.{no_paging_text, request_is, not_lowest, not_modified, keeps_block, part_text, part_words, refusal_text, why_not};
 ghost use Rattle.mm_sentences.specs.declared.parts.Part.TheVariants as part;
 
 use crate::parts::Part;
@@ -188,7 +188,7 @@ fn put_depth_is(life: &Life, text: &mut Vec<u8>) -> Result<(), NoMemory>
 
 /// Writes where a page stands.
 fn put_stands(key: Key, held: Held, text: &mut Vec<u8>) -> Result<(), NoMemory>
-    ensures { OnOk result (text.new.items ≡ text.old.items ++ stands_in key held) }
+    ensures { OnOk result (text.new.items ≡ text.old.items ++ stands_text key held) }
 {
     match held {
         Held::Frame(frame) => put_page_counted(key, b" is in frame ", frame.0, text),
@@ -399,7 +399,7 @@ fn put_keeps_place(life: &Life, pid: Pid, text: &mut Vec<u8>) -> Result<(), NoMe
 }
 
 fn put_no_paging(life: &Life, key: Key, text: &mut Vec<u8>) -> Result<(), NoMemory>
-    ensures { OnOk result (text.new.items ≡ text.old.items ++ no_paging (life_of life.now) key) }
+    ensures { OnOk result (text.new.items ≡ text.old.items ++ no_paging_text (life_of life.now) key) }
 {
     if life.is_live(key) {
         put_page_is(key, b" is a file's", text)
@@ -644,7 +644,7 @@ fn put_move(m: &Move, text: &mut Vec<u8>) -> Result<(), NoMemory>
 /// state: the move, and why.
 #[tactic(auto, using(crate::proofs::Joined::joined))]
 pub fn put_why(life: &Life, m: &Move, text: &mut Vec<u8>) -> Result<(), NoMemory>
-    ensures { OnOk result (text.new.items ≡ text.old.items ++ why_text (life_of life.now) m.now) }
+    ensures { OnOk result (text.new.items ≡ text.old.items ++ why_not (life_of life.now) m.now) }
 {
     put_words(b": ", text)?;
     put_move(m, text)?;

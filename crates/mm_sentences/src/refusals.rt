@@ -4,7 +4,7 @@ ghost use Rattle.mm_types.specs.{limit_of};
 ghost use Rattle.mm_move_rules.specs.{is_first, is_zero, is_stored, owner_is, fits_place, is_block, is_lowest, is_legal, is_shared};
 ghost use Rattle.mm_replay.specs.{frames_on};
 ghost use Rattle.mm_replay.specs.Standing.{life as life_of};
-ghost use Rattle.mm_sentences.specs.{holds, parts_of, first_failing, is_clean, refusal, is_tested, are_tested, all_hold, none_free};
+ghost use Rattle.mm_sentences.specs.{part_holds, parts_of, first_failing, is_clean, refusal, is_tested, are_tested, all_hold, none_free};
 ghost use Rattle.mm_sentences.specs.declared.parts.Part.TheVariants as part;
 
 use crate::parts::Part;
@@ -98,7 +98,7 @@ pub(crate) fn limit(life: &Life) -> u64
 
 /// Whether a frame is the first free one, or where there is none the first zeroed one.
 fn is_first_to_read(life: &Life, frame: Frame) -> bool
-    ensures { result ≡ holds (life_of life.now) (part.FirstToRead frame) }
+    ensures { result ≡ part_holds (life_of life.now) (part.FirstToRead frame) }
 {
     is_first(life, FrameList::Free, frame)
         || (life.is_list_empty(FrameList::Free) && is_first(life, FrameList::Zeroed, frame))
@@ -130,8 +130,8 @@ fn is_lowest(life: &Life, slot: Slot) -> bool
 // ---- a part
 
 /// Whether a part of a condition holds, where it is not the last part of any.
-fn holds(life: &Life, part: Part) -> bool
-    ensures { is_tested part ≡ true → result ≡ holds (life_of life.now) part }
+fn part_holds(life: &Life, part: Part) -> bool
+    ensures { is_tested part ≡ true → result ≡ part_holds (life_of life.now) part }
 {
     match part {
         Part::NextLine(line) => u64::from(line) == u64::from(life.line()) + 1,
@@ -197,7 +197,7 @@ fn first_or(life: &Life, parts: &[Part], last: Part) -> Part
     ensures { first_failing (life_of life.now) (parts.now ++ last ∷ []) ≡ Some result }
 {
     for part in parts {
-        if !holds(life, *part) {
+        if !part_holds(life, *part) {
             return *part;
         }
     }

@@ -6,7 +6,7 @@ use Rattle.mm_log_walk.proofs.{says_exactly}
 use Rattle.mm_log_walk.specs.{SaysExactly, Said, said_by, Answers, RestOf, beside, HasBytes, HasLines, FileFault, Sought}
 use Rattle.mm_move_rules.specs.{unstarted}
 use Rattle.mm_show.specs.{PageTexts, PageOf, form_said, form_sought, form_why, sums_said, FileIs, sums_text, sum_rest, SumTeller, Form, FileHas}
-use Rattle.mm_show.specs.{IfGood, IsRefusedRow, LacksFile, files_at, word_at, observed, whole_page, page_rest, PageTeller, page_said, whole_page_text}
+use Rattle.mm_show.specs.{IfGood, IsRefusedRow, LacksFile, files_at, asked_word, observed, whole_page, page_rest, PageTeller, page_said, whole_page_text}
 
 abbrev read_as : Option (List Text) → Result (Option (List Text)) FileFault
 read_as lines = Ok lines
@@ -73,7 +73,7 @@ told_as f g p script answers left left' took took' sought said status e asked sa
 abbrev pub Shown : Form → PageTexts → List Text → Option Text → Option Text → Option Text → Option Text → Option (List Text) → Option (List Text) → Option Text → ℕ → Type 0
 Shown f page words left left' took took' script answers bytes result =
     IfGood (observed script answers bytes) took took' result
-    (λ packed. Answers left left' took took' (beside script answers) (form_sought f) (form_said f (whole_page page (word_at words 1) packed) script answers) (form_why f) result) ⊎ LacksFile (files_at f) words took took' result
+    (λ packed. Answers left left' took took' (beside script answers) (form_sought f) (form_said f (whole_page page (asked_word words 1) packed) script answers) (form_why f) result) ⊎ LacksFile (files_at f) words took took' result
 
 -- what is said with the packed text, of each
 pub good_map : (r : Result Text ℕ) (took took' : Option Text) (result : ℕ) (A B : Text → Type 0) → ((text : Text) → A text → B text) → IfGood r took took' result A → IfGood r took took' result B
@@ -90,10 +90,10 @@ good_refused first words r n took took' result A e (inr h) = inr (inl (inr h))
 
 pub shown_exactly : (f : Form) (page : PageTexts) (words : List Text) (left left' took took' : Option Text) (script answers : Option (List Text)) (bytes : Option Text) (result : ℕ)
     → Shown f page words left left' took took' script answers bytes result
-    → IfGood (observed script answers bytes) took took' result (λ packed. SaysExactly (beside script answers) (form_sought f) (form_said f (whole_page page (word_at words 1) packed) script answers) (form_why f) left took took' result) ⊎ LacksFile (files_at f) words took took' result
+    → IfGood (observed script answers bytes) took took' result (λ packed. SaysExactly (beside script answers) (form_sought f) (form_said f (whole_page page (asked_word words 1) packed) script answers) (form_why f) left took took' result) ⊎ LacksFile (files_at f) words took took' result
 shown_exactly f page words left left' took took' script answers bytes result (inl h) =
     inl (good_map (observed script answers bytes) took took' result
-    (λ (packed : Text). Answers left left' took took' (beside script answers) (form_sought f) (form_said f (whole_page page (word_at words 1) packed) script answers) (form_why f) result)
-    (λ (packed : Text). SaysExactly (beside script answers) (form_sought f) (form_said f (whole_page page (word_at words 1) packed) script answers) (form_why f) left took took' result)
-    (λ packed t. says_exactly (beside script answers) (form_sought f) (form_said f (whole_page page (word_at words 1) packed) script answers) (form_why f) left left' took took' result t) h)
+    (λ (packed : Text). Answers left left' took took' (beside script answers) (form_sought f) (form_said f (whole_page page (asked_word words 1) packed) script answers) (form_why f) result)
+    (λ (packed : Text). SaysExactly (beside script answers) (form_sought f) (form_said f (whole_page page (asked_word words 1) packed) script answers) (form_why f) left took took' result)
+    (λ packed t. says_exactly (beside script answers) (form_sought f) (form_said f (whole_page page (asked_word words 1) packed) script answers) (form_why f) left left' took took' result t) h)
 shown_exactly f page words left left' took took' script answers bytes result (inr h) = inr h

@@ -4,7 +4,7 @@ use Rattle.std.specs.Prelude.{slice_get}
 use Rattle.std.proofs.lemmas.List.{drop_more, drop_all}
 use Rattle.std.proofs.lemmas.Option.{slice_get_within, get_or_from_slice_get, slice_get_cases}
 use Rattle.mm_types.specs.{Text}
-use Rattle.mm_observations.specs.{run_after, run_from}
+use Rattle.mm_observations.specs.{run_after, run_lines_from}
 use Rattle.mm_observations.specs.declared.run_lines.RunLines.{RunLines}
 
 -- a line, and those behind it
@@ -20,23 +20,23 @@ none_at xs i e = elim (slice_get_cases xs i).1 [
 ]
 
 pub run_more : (run new : RunLines) (script answers : List Text) (i : ℕ) (line answer : Text) → Some line ≡ slice_get script i → Some answer ≡ slice_get answers i → new ≡ run_after run line answer
-    → run_from run (drop i script) (drop i answers) ≡ run_from new (drop (i + 1) script) (drop (i + 1) answers)
+    → run_lines_from run (drop i script) (drop i answers) ≡ run_lines_from new (drop (i + 1) script) (drop (i + 1) answers)
 run_more run new script answers i line answer s a e =
-    ap (λ ls. run_from run ls (drop i answers)) (drop_at script i line s)
-    ∙ ap (λ ts. run_from run (line ∷ drop (i + 1) script) ts) (drop_at answers i answer a)
-    ∙ ap (λ r. run_from r (drop (i + 1) script) (drop (i + 1) answers)) (sym e)
+    ap (λ ls. run_lines_from run ls (drop i answers)) (drop_at script i line s)
+    ∙ ap (λ ts. run_lines_from run (line ∷ drop (i + 1) script) ts) (drop_at answers i answer a)
+    ∙ ap (λ r. run_lines_from r (drop (i + 1) script) (drop (i + 1) answers)) (sym e)
 
-none_answered : (run : RunLines) (lines : List Text) → run_from run lines [] ≡ run
+none_answered : (run : RunLines) (lines : List Text) → run_lines_from run lines [] ≡ run
 none_answered run [] = refl
 none_answered run (l ∷ ls) = refl
 
-pub run_unscripted : (run : RunLines) (script answers : List Text) (i : ℕ) → None ≡ slice_get script i → run_from run (drop i script) (drop i answers) ≡ run
-run_unscripted run script answers i e = ap (λ ls. run_from run ls (drop i answers)) (none_at script i e)
+pub run_unscripted : (run : RunLines) (script answers : List Text) (i : ℕ) → None ≡ slice_get script i → run_lines_from run (drop i script) (drop i answers) ≡ run
+run_unscripted run script answers i e = ap (λ ls. run_lines_from run ls (drop i answers)) (none_at script i e)
 
-pub run_unanswered : (run : RunLines) (script answers : List Text) (i : ℕ) → None ≡ slice_get answers i → run_from run (drop i script) (drop i answers) ≡ run
-run_unanswered run script answers i e = ap (λ ts. run_from run (drop i script) ts) (none_at answers i e) ∙ none_answered run (drop i script)
+pub run_unanswered : (run : RunLines) (script answers : List Text) (i : ℕ) → None ≡ slice_get answers i → run_lines_from run (drop i script) (drop i answers) ≡ run
+run_unanswered run script answers i e = ap (λ ts. run_lines_from run (drop i script) ts) (none_at answers i e) ∙ none_answered run (drop i script)
 
-pub run_ended : (run : RunLines) (script answers : List Text) (i : ℕ) → length answers ≤ i → run_from run (drop i script) (drop i answers) ≡ run
-run_ended run script answers i over = ap (λ ts. run_from run (drop i script) ts) (drop_all i answers over) ∙ none_answered run (drop i script)
+pub run_ended : (run : RunLines) (script answers : List Text) (i : ℕ) → length answers ≤ i → run_lines_from run (drop i script) (drop i answers) ≡ run
+run_ended run script answers i over = ap (λ ts. run_lines_from run (drop i script) ts) (drop_all i answers over) ∙ none_answered run (drop i script)
 
 pub ruleset run_followed = (run_more, run_unscripted, run_unanswered, run_ended)

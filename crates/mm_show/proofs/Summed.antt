@@ -8,7 +8,7 @@ use Rattle.mm_types.specs.declared.moves.Move.TheVariants as move
 use Rattle.mm_move_rules.specs.{FrameLife, unstarted, after_move}
 use Rattle.mm_move_classes.specs.{MarksOf, no_marks, marks_after, classes, is_class, class_count, kind_code, code_of, Class}
 use Rattle.mm_log_walk.specs.{pending, class_then, move_of, class_list, classes_rest, Pending}
-use Rattle.mm_show.specs.{is_kind, class_sums, kind_sums, sums_text, code_count, sums_left, of_class, of_kind, AreFew}
+use Rattle.mm_show.specs.{is_kind, class_sums, kind_sums, sums_text, code_count, sums_left, of_class, of_kind, AreBounded}
 use Rattle.mm_log_walk.proofs.{classes_taken}
 
 bumped : (xs : List ℕ) (i k : ℕ) → i < length xs → get_or (set xs i (get_or xs i 0 + 1)) k 0 ≡ cond (i == k) 1 0 + get_or xs k 0
@@ -77,7 +77,7 @@ kinds_ended kinds0 =
     let f : slice_index kinds0 ≡ of_kind kinds0 [] = λ i. λ k. same_kind kinds0 k i in
     ap kind_sums f
 
-pub few_none : (xs ys : List ℕ) → xs ≡ replicate 256 0 → ys ≡ replicate 256 0 → AreFew xs ys 0
+pub few_none : (xs ys : List ℕ) → xs ≡ replicate 256 0 → ys ≡ replicate 256 0 → AreBounded xs ys 0
 few_none xs ys e f = record {
   classes_few = λ k. omega (arith, ap (λ (zs : List ℕ). slice_index zs k) e, none_yet 256 k);
   kinds_few = λ k. omega (arith, ap (λ (zs : List ℕ). slice_index zs k) f, none_yet 256 k);

@@ -13,7 +13,7 @@ abbrev pub of_kind : List ℕ → List Move → ℕ → ℕ
 of_kind counts ms k = slice_index counts k + count_by (is_kind k) ms
 
 -- no number is greater than this
-pub record AreFew (classes kinds : List ℕ) (counted : ℕ) : Type 0 where
+pub record AreBounded (classes kinds : List ℕ) (counted : ℕ) : Type 0 where
   pub classes_few : (k : ℕ) → slice_index classes k ≤ counted
   pub kinds_few : (k : ℕ) → slice_index kinds k ≤ counted
   pub few : counted < 2 ^ 63

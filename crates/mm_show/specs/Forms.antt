@@ -10,7 +10,7 @@ use Rattle.mm_types.specs.{Text, Key}
 use Rattle.mm_types.specs.declared.numbers.Key.TheVariants.{Private, Shared}
 use Rattle.mm_text.specs.{number_of}
 use Rattle.mm_arguments.specs.{is_dashed}
-use Rattle.mm_reports.specs.{before, behind}
+use Rattle.mm_reports.specs.{before, after_byte}
 use Rattle.mm_reports.specs.declared.styles.Style.TheVariants as style
 use Rattle.mm_show.specs.declared.forms.Form.{Form}
 use Rattle.mm_show.specs.declared.forms.Form.TheVariants as form
@@ -18,8 +18,8 @@ use Rattle.mm_show.specs.declared.forms.Files.{Files}
 use Rattle.mm_show.specs.declared.forms.Files.TheVariants as files
 
 -- a word by its place
-abbrev pub word_at : List Text → ℕ → Text
-word_at words place = slice_index_or words place []
+abbrev pub asked_word : List Text → ℕ → Text
+asked_word words place = slice_index_or words place []
 
 -- ---- numbers and keys
 
@@ -37,27 +37,27 @@ pid_among n = if nat_lt n 256 then Some n else None
 abbrev pub pid_of : Text → Option ℕ
 pid_of word = option_and_then pid_among (number_of word)
 
-abbrev pub private_key : Option ℕ → Option ℕ → Option Key
-private_key None page = None
-private_key (Some pid) None = None
-private_key (Some pid) (Some page) = Some (Private (record { 0 = pid }) (record { 0 = page }))
+abbrev pub private_key_asked : Option ℕ → Option ℕ → Option Key
+private_key_asked None page = None
+private_key_asked (Some pid) None = None
+private_key_asked (Some pid) (Some page) = Some (Private (record { 0 = pid }) (record { 0 = page }))
 
-abbrev pub shared_key : Option ℕ → Option ℕ → Option Key
-shared_key None index = None
-shared_key (Some area) None = None
-shared_key (Some area) (Some index) = Some (Shared (record { 0 = area }) index)
+abbrev pub shared_key_asked : Option ℕ → Option ℕ → Option Key
+shared_key_asked None index = None
+shared_key_asked (Some area) None = None
+shared_key_asked (Some area) (Some index) = Some (Shared (record { 0 = area }) index)
 
 -- the page that holds an address
-abbrev pub page_at : Text → Option ℕ
-page_at word = option_map (λ address. address / 4096) (number_of word)
+abbrev pub page_asked : Text → Option ℕ
+page_asked word = option_map (λ address. address / 4096) (number_of word)
 
 -- `p1.16`, `s0.2`, or a process and an address, `1:0x11000`
-abbrev pub key_of : Text → Option Key
-key_of [] = None
-key_of (c ∷ cs) =
-    if c == 112 then private_key (pid_of (before 46 cs)) (number_of (behind 46 cs))
-    else if c == 115 then shared_key (number_of (before 46 cs)) (number_of (behind 46 cs))
-    else private_key (pid_of (before 58 (c ∷ cs))) (page_at (behind 58 (c ∷ cs)))
+abbrev pub key_asked : Text → Option Key
+key_asked [] = None
+key_asked (c ∷ cs) =
+    if c == 112 then private_key_asked (pid_of (before 46 cs)) (number_of (after_byte 46 cs))
+    else if c == 115 then shared_key_asked (number_of (before 46 cs)) (number_of (after_byte 46 cs))
+    else private_key_asked (pid_of (before 58 (c ∷ cs))) (page_asked (after_byte 58 (c ∷ cs)))
 
 -- ---- forms
 
@@ -102,7 +102,7 @@ faults_with first count =
 -- the form of this name with these values
 abbrev pub form_in : Text → List Text → Option Form
 form_in name values =
-    let first : Text = word_at values 0 in
+    let first : Text = asked_word values 0 in
     let count : ℕ = length values in
     if bytes_eq name (codes "html") then option_map form.Html (page_files count)
     else if bytes_eq name (codes "tell") then option_map form.Tell (files_beside count)
@@ -110,7 +110,7 @@ form_in name values =
     else if bytes_eq name (codes "counts") then counts_with first count
     else if bytes_eq name (codes "state") then with_one form.StateAt (line_asked_for first) count
     else if bytes_eq name (codes "frame") then with_one form.FrameAt (number_of first) count
-    else if bytes_eq name (codes "key") then with_one form.KeyAt (key_of first) count
+    else if bytes_eq name (codes "key") then with_one form.KeyAt (key_asked first) count
     else if bytes_eq name (codes "faults") then faults_with first count
     else if bytes_eq name (codes "sums") then alone form.Sums count
     else None

@@ -11,15 +11,15 @@ pub mod Texts
 pub use Words.{class_rows, class_words_row, group_word, move_word}
 pub use Data.{classed_data, data_rest}
 pub use PageRest.{page_rest}
-pub use Sums.{class_row, class_sums, code_count, is_kind, kind_row, kind_sums, sums_text}
-pub use Counted.{AreFew, of_class, of_kind}
+pub use Sums.{class_sum_row, class_sums, code_count, is_kind, kind_row, kind_sums, sums_text}
+pub use Counted.{AreBounded, of_class, of_kind}
 pub use SumRest.{sum_rest, sums_left}
-pub use Forms.{files_at, files_of, form_of, has_answers, has_observations, has_script, key_of}
-pub use Forms.{line_asked_for, page_at, pid_of, private_key, shared_key, word_at}
+pub use Forms.{files_at, files_of, form_of, has_answers, has_observations, has_script, key_asked}
+pub use Forms.{line_asked_for, page_asked, pid_of, private_key_asked, shared_key_asked, asked_word}
 pub use Observed.{FileHas, IfGood, IsRefusedRow, bad_row_text, observed}
 pub use Showing.{FileFailed, FileIs, IsUnread, LacksFile, PageOf, form_said, form_sought, form_why}
-pub use Showing.{page_said, sums_said, unread_text, usage_text, whole_page_text}
-pub use Texts.{page_of, whole_page}
+pub use Showing.{page_said, sums_said, unread_text, show_usage_text, whole_page_text}
+pub use Texts.{page_read, whole_page}
 pub use declared.data.PageTeller.{PageTeller}
 pub use declared.forms.Form.{Form}
 pub use declared.pages.PageTexts.{PageTexts}

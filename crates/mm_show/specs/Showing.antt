@@ -7,12 +7,12 @@ use Rattle.mm_move_classes.specs.{log_data}
 use Rattle.mm_log_check.specs.{Shows, IsRefusedLog}
 use Rattle.mm_log_walk.specs.{lines_of, total_of, shown_file, shown_line, answer_file, Said, Sought, Why, no_why}
 use Rattle.mm_log_walk.specs.declared.seeking.Sought.TheVariants as sought
-use Rattle.mm_sentences.specs.{why_text}
+use Rattle.mm_sentences.specs.{why_not}
 use Rattle.mm_reports.specs.{counts_rows, fault_rows, frame_history, key_history, state_rows, use_rows}
 use Rattle.mm_reports.specs.declared.styles.Style.TheVariants as style
 use Rattle.mm_transcripts.specs.{transcript}
 use Rattle.mm_events.specs.{events}
-use Rattle.mm_show.specs.Forms.{word_at}
+use Rattle.mm_show.specs.Forms.{asked_word}
 use Rattle.mm_show.specs.Words.{class_rows}
 use Rattle.mm_show.specs.Sums.{sums_text}
 use Rattle.mm_show.specs.declared.forms.Form.{Form}
@@ -84,7 +84,7 @@ form_sought _ = sought.Nothing
 -- behind the number of a bad line: a page says nothing
 abbrev pub form_why : Form → Why
 form_why (form.Html named) = no_why
-form_why _ = why_text
+form_why _ = why_not
 
 -- ---- files
 
@@ -110,12 +110,12 @@ IsUnread name took took' result =
 -- one of the files that the words name was not read, of which the first stands at this place
 abbrev pub LacksFile : ℕ → List Text → Option Text → Option Text → ℕ → Type 0
 LacksFile first words took took' result =
-    IsUnread (word_at words first) took took' result
-    ⊎ (IsUnread (word_at words (first + 1)) took took' result
-    ⊎ IsUnread (word_at words (first + 2)) took took' result)
+    IsUnread (asked_word words first) took took' result
+    ⊎ (IsUnread (asked_word words (first + 1)) took took' result
+    ⊎ IsUnread (asked_word words (first + 2)) took took' result)
 
-abbrev pub usage_text : Text
-usage_text =
+abbrev pub show_usage_text : Text
+show_usage_text =
     codes "usage: mmshow html [SCRIPT [ANSWERS [OBSERVATIONS]]] | tell [SCRIPT [ANSWERS]] "
     ++ (codes "| events [SCRIPT [ANSWERS]] | counts [LINE] | counts csv [SCRIPT [ANSWERS]] | state LINE "
     ++ (codes "| frame N | key KEY | faults [csv] | sums" ++ 10 ∷ []))

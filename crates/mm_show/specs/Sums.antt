@@ -11,32 +11,32 @@ use Rattle.mm_show.specs.declared.sums.KindName.{KindName}
 use Rattle.mm_show.specs.declared.sums.KindName.TheVariants as kind
 
 -- how many there are of something, where there is one
-abbrev pub sum_row : Text → ℕ → Text
-sum_row name n = if n == 0 then [] else name ++ 32 ∷ (decimal n ++ 10 ∷ [])
+abbrev pub counted_row : Text → ℕ → Text
+counted_row name n = if n == 0 then [] else name ++ 32 ∷ (decimal n ++ 10 ∷ [])
 
 -- the line begins with this move, and is of the kind of this code
 abbrev pub is_kind : ℕ → Move → Bool
 is_kind code (move.At n k) = kind_code k == code
 is_kind code _ = false
 
-abbrev pub class_row : (Class → ℕ) → Class → Text
-class_row count c = sum_row (code_of c ∷ []) (count c)
+abbrev pub class_sum_row : (Class → ℕ) → Class → Text
+class_sum_row count c = counted_row (code_of c ∷ []) (count c)
 
 abbrev pub class_sums : (Class → ℕ) → Text
-class_sums count = flat_map (class_row count) all_classes
+class_sums count = flat_map (class_sum_row count) all_classes
 
-abbrev pub kind_text : KindName → Text
-kind_text kind.Machine = codes "at machine"
-kind_text kind.Process = codes "at process"
-kind_text kind.Grow = codes "at grow"
-kind_text kind.Access = codes "at access"
-kind_text kind.Thread = codes "at thread"
-kind_text kind.Trim = codes "at trim"
-kind_text kind.Unbind = codes "at unbind"
-kind_text kind.Writer = codes "at writer"
-kind_text kind.Zeroer = codes "at zeroer"
-kind_text kind.Io = codes "at io"
-kind_text kind.Call = codes "at call"
+abbrev pub kind_name_text : KindName → Text
+kind_name_text kind.Machine = codes "at machine"
+kind_name_text kind.Process = codes "at process"
+kind_name_text kind.Grow = codes "at grow"
+kind_name_text kind.Access = codes "at access"
+kind_name_text kind.Thread = codes "at thread"
+kind_name_text kind.Trim = codes "at trim"
+kind_name_text kind.Unbind = codes "at unbind"
+kind_name_text kind.Writer = codes "at writer"
+kind_name_text kind.Zeroer = codes "at zeroer"
+kind_name_text kind.Io = codes "at io"
+kind_name_text kind.Call = codes "at call"
 
 -- the code of the kind in the page's data
 abbrev pub kind_letter : KindName → ℕ
@@ -59,7 +59,7 @@ all_kinds =
     kind.Writer ∷ kind.Zeroer ∷ kind.Io ∷ kind.Call ∷ []
 
 abbrev pub kind_row : (ℕ → ℕ) → KindName → Text
-kind_row count k = sum_row (kind_text k) (count (kind_letter k))
+kind_row count k = counted_row (kind_name_text k) (count (kind_letter k))
 
 abbrev pub kind_sums : (ℕ → ℕ) → Text
 kind_sums count = flat_map (kind_row count) all_kinds

@@ -19,5 +19,5 @@ whole_page p name observations = record {
 }
 
 -- of what was read
-abbrev pub page_of : PageTexts → Named → PageOf
-page_of p named = whole_page p named.name.now named.observations.now
+abbrev pub page_read : PageTexts → Named → PageOf
+page_read p named = whole_page p named.name.now named.observations.now

@@ -2,9 +2,9 @@ ghost use Rattle.std.specs.Prelude.{◌≡◌, map, option_map, string_bytes, If
 ghost use Rattle.mm_text.specs.{number_of};
 ghost use Rattle.mm_arguments.specs.{texts};
 ghost use Rattle.mm_show.specs.declared.forms.Form.TheVariants as form;
-ghost use Rattle.mm_show.specs.Forms.{word_at, files_beside, page_files, alone, form_in, form_of};
+ghost use Rattle.mm_show.specs.Forms.{asked_word, files_beside, page_files, alone, form_in, form_of};
 ghost use Rattle.mm_show.specs.Forms.{is_csv, with_one, counts_with, faults_with, line_asked_for};
-ghost use Rattle.mm_show.specs.Forms.{key_of};
+ghost use Rattle.mm_show.specs.Forms.{key_asked};
 
 use crate::keys::{key, line};
 use mm_arguments::read_words;
@@ -55,8 +55,8 @@ pub enum Files {
 }
 
 /// A word by its place; the empty text where there is none.
-pub(crate) fn word_at(words: &[String], place: usize) -> &[u8]
-    ensures { result.now ≡ word_at (map string_bytes words.now) place }
+pub(crate) fn asked_word(words: &[String], place: usize) -> &[u8]
+    ensures { result.now ≡ asked_word (map string_bytes words.now) place }
 {
     match words.get(place) {
         Some(word) => word.as_bytes(),
@@ -66,7 +66,7 @@ pub(crate) fn word_at(words: &[String], place: usize) -> &[u8]
 
 /// The first of a form's values; the empty text where there is none.
 fn value<'a>(values: &[&'a str]) -> &'a [u8]
-    ensures { result.now ≡ word_at (texts values.now) 0 }
+    ensures { result.now ≡ asked_word (texts values.now) 0 }
 {
     match values.get(0) {
         Some(value) => value.as_bytes(),
@@ -203,7 +203,7 @@ fn frame_form(first: &[u8], count: usize) -> Option<Form>
 }
 
 fn key_form(first: &[u8], count: usize) -> Option<Form>
-    ensures { result ≡ with_one form.KeyAt (key_of first.now) count }
+    ensures { result ≡ with_one form.KeyAt (key_asked first.now) count }
 {
     if count != 1 {
         return None;

@@ -1,7 +1,7 @@
 ghost use Rattle.std.specs.Prelude.{◌≡◌, ◌/◌, option_map};
-ghost use Rattle.mm_show.specs.{line_asked_for, pid_of, private_key, shared_key, page_at, key_of};
+ghost use Rattle.mm_show.specs.{line_asked_for, pid_of, private_key_asked, shared_key_asked, page_asked, key_asked};
 
-use mm_reports::{before, behind};
+use mm_reports::{after_byte, before};
 use mm_text::number;
 use mm_types::{Area, Key, Pid, Vpn};
 
@@ -31,8 +31,8 @@ fn pid(word: &[u8]) -> Option<Pid>
     }
 }
 
-fn private_key(pid: Option<Pid>, page: Option<u32>) -> Option<Key>
-    ensures { result ≡ private_key (option_map (λ p. p.0) pid) page }
+fn private_key_asked(pid: Option<Pid>, page: Option<u32>) -> Option<Key>
+    ensures { result ≡ private_key_asked (option_map (λ p. p.0) pid) page }
 {
     match (pid, page) {
         (Some(pid), Some(page)) => Some(Key::Private(pid, Vpn(page))),
@@ -40,8 +40,8 @@ fn private_key(pid: Option<Pid>, page: Option<u32>) -> Option<Key>
     }
 }
 
-fn shared_key(area: Option<u32>, index: Option<u32>) -> Option<Key>
-    ensures { result ≡ shared_key area index }
+fn shared_key_asked(area: Option<u32>, index: Option<u32>) -> Option<Key>
+    ensures { result ≡ shared_key_asked area index }
 {
     match (area, index) {
         (Some(area), Some(index)) => Some(Key::Shared(Area(area), index)),
@@ -50,8 +50,8 @@ fn shared_key(area: Option<u32>, index: Option<u32>) -> Option<Key>
 }
 
 /// The page that holds the address that a word is.
-fn page_at(word: &[u8]) -> Option<u32>
-    ensures { result ≡ page_at word.now }
+fn page_asked(word: &[u8]) -> Option<u32>
+    ensures { result ≡ page_asked word.now }
 {
     match number(word) {
         Some(address) => Some(address / 4096),
@@ -62,11 +62,17 @@ fn page_at(word: &[u8]) -> Option<u32>
 /// The page that a word names: `p1.16` and `s0.2` as a log has them, or a process and an address,
 /// `1:0x11000`. Each number may be decimal, or hexadecimal behind `0x`.
 pub(crate) fn key(word: &[u8]) -> Option<Key>
-    ensures { result ≡ key_of word.now }
+    ensures { result ≡ key_asked word.now }
 {
     match word {
-        [b'p', rest @ ..] => private_key(pid(before(b'.', rest)), number(behind(b'.', rest))),
-        [b's', rest @ ..] => shared_key(number(before(b'.', rest)), number(behind(b'.', rest))),
-        _ => private_key(pid(before(b':', word)), page_at(behind(b':', word))),
+        [b'p', rest @ ..] => private_key_asked(
+            pid(before(b'.', rest)),
+            number(after_byte(b'.', rest)),
+        ),
+        [b's', rest @ ..] => shared_key_asked(
+            number(before(b'.', rest)),
+            number(after_byte(b'.', rest)),
+        ),
+        _ => private_key_asked(pid(before(b':', word)), page_asked(after_byte(b':', word))),
     }
 }

@@ -1,5 +1,5 @@
 ghost use Rattle.std.specs.Prelude.{◌≡◌, MatchResult, Ok, option_map};
-ghost use Rattle.mm_observations.specs.{Refuses, run_lines};
+ghost use Rattle.mm_observations.specs.{RefusesFile, run_lines};
 ghost use Rattle.mm_show.specs.{observed};
 
 use mm_log_walk::Lines;
@@ -33,7 +33,7 @@ pub(crate) fn observed(
 ) -> Result<Vec<u8>, PackFault>
     ensures { MatchResult result (λ v. observed script.now answers.now
         (option_map (λ b. b.items) bytes.now) ≡ Ok v.items)
-        (Refuses (observed script.now answers.now (option_map (λ b. b.items) bytes.now))) }
+        (RefusesFile (observed script.now answers.now (option_map (λ b. b.items) bytes.now))) }
 {
     match (script, answers, bytes) {
         (Some(script), Some(answers), Some(bytes)) => {

@@ -37,13 +37,13 @@ pub(crate) struct Named<'a> {
 }
 
 ghost use Rattle.mm_show.specs.Showing.{front_text, name_row, script_text, behind_text, whole_page_text};
-ghost use Rattle.mm_show.specs.Texts.{page_of};
+ghost use Rattle.mm_show.specs.Texts.{page_read};
 ghost use Rattle.mm_show.specs.PageRest.{page_rest};
 
 /// What stands in front of a page's moves.
 #[tactic(auto, using(mm_text::proofs::DigitCounts::joined))]
 fn front_of(alloc: Global, page: &PageTexts<'_>, named: &Named<'_>) -> Result<Vec<u8>, NoMemory>
-    ensures { IfOk result (λ v. v.items ≡ front_text (page_of page.now named.now)) }
+    ensures { IfOk result (λ v. v.items ≡ front_text (page_read page.now named.now)) }
 {
     let mut text = Vec::new(alloc);
     text.extend_from_slice(page.up_to_classes)?;
@@ -72,7 +72,7 @@ fn put_script(
     text: &mut Vec<u8>,
 ) -> Result<(), NoMemory>
     ensures { OnOk result (text.new.items ≡ text.old.items
-        ++ script_text (page_of page.now named.now) script.now answers.now) }
+        ++ script_text (page_read page.now named.now) script.now answers.now) }
 {
     text.extend_from_slice(page.up_to_script)?;
     put_file(script, text)?;
@@ -92,7 +92,7 @@ fn behind_of(
     answers: &Option<Lines>,
 ) -> Result<Vec<u8>, NoMemory>
     ensures { IfOk result (λ v. v.items
-        ≡ behind_text (page_of page.now named.now) script.now answers.now) }
+        ≡ behind_text (page_read page.now named.now) script.now answers.now) }
 {
     let mut text = Vec::new(alloc);
     put_script(page, named, script, answers, &mut text)?;
@@ -111,7 +111,7 @@ pub(crate) fn page_teller(
     answers: &Option<Lines>,
 ) -> Result<PageTeller, NoMemory>
     ensures { IfOk result (λ t. (moves : List Move) → page_rest t true unstarted moves
-        ≡ whole_page_text (page_of page.now named.now) script.now answers.now moves) }
+        ≡ whole_page_text (page_read page.now named.now) script.now answers.now moves) }
 {
     let front = front_of(alloc, page, named)?;
     let behind = behind_of(alloc, page, named, script, answers)?;

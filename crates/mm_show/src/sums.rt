@@ -6,11 +6,11 @@ ghost use Rattle.mm_move_rules.specs.{unstarted};
 ghost use Rattle.mm_replay.specs.Standing.{life as life_of};
 ghost use Rattle.mm_move_classes.specs.{Class};
 ghost use Rattle.mm_log_walk.specs.{class_list};
-ghost use Rattle.mm_show.specs.Sums.{sum_row, class_row, kind_row, class_sums, kind_sums};
-ghost use Rattle.mm_show.specs.Sums.{kind_text, kind_letter};
+ghost use Rattle.mm_show.specs.Sums.{counted_row, class_sum_row, kind_row, class_sums, kind_sums};
+ghost use Rattle.mm_show.specs.Sums.{kind_name_text, kind_letter};
 ghost use Rattle.mm_show.specs.Sums.{sums_text, code_count};
-ghost use Rattle.mm_show.specs.Counted.{of_class, of_kind, AreFew};
-ghost use Rattle.mm_sentences.specs.{why_text};
+ghost use Rattle.mm_show.specs.Counted.{of_class, of_kind, AreBounded};
+ghost use Rattle.mm_sentences.specs.{why_not};
 
 use crate::words::CLASSES;
 use mm_log_walk::{Classed, Classifier, Teller};
@@ -52,8 +52,8 @@ const KINDS: [KindName; 11] = [
     KindName::Call,
 ];
 
-fn kind_text(kind: KindName) -> &'static [u8]
-    ensures text { result.now ≡ kind_text kind }
+fn kind_name_text(kind: KindName) -> &'static [u8]
+    ensures text { result.now ≡ kind_name_text kind }
     ensures few { length result.now ≤ 20 }
 {
     match kind {
@@ -93,7 +93,7 @@ fn kind_letter(kind: KindName) -> u8
 #[tactic(auto, using(mm_text::proofs::DigitCounts::joined))]
 fn put_row(name: &[u8], n: u64, text: &mut Vec<u8>) -> Result<(), NoMemory>
     requires { length name.now ≤ 20 }
-    ensures { OnOk result (text.new.items ≡ text.old.items ++ sum_row name.now n) }
+    ensures { OnOk result (text.new.items ≡ text.old.items ++ counted_row name.now n) }
 {
     if n == 0 {
         return Ok(());
@@ -156,7 +156,7 @@ fn count_kind(kinds: &mut [u64; 256], m: &Move)
 /// A row for each of some classes that there is one of.
 fn put_class_rows(all: &[Class], classes: &[u64; 256], text: &mut Vec<u8>) -> Result<(), NoMemory>
     ensures { OnOk result (text.new.items
-        ≡ text.old.items ++ flat_map (class_row (code_count classes.now)) all.now) }
+        ≡ text.old.items ++ flat_map (class_sum_row (code_count classes.now)) all.now) }
 {
     for class in all {
         let letter = code(*class);
@@ -178,7 +178,11 @@ fn put_kind_rows(all: &[KindName], kinds: &[u64; 256], text: &mut Vec<u8>) -> Re
         ≡ text.old.items ++ flat_map (kind_row (slice_index kinds.now)) all.now) }
 {
     for kind in all {
-        put_row(kind_text(*kind), kinds[kind_letter(*kind) as usize], text)?;
+        put_row(
+            kind_name_text(*kind),
+            kinds[kind_letter(*kind) as usize],
+            text,
+        )?;
     }
     Ok(())
 }
@@ -207,7 +211,7 @@ pub(crate) struct SumTeller {
     kinds: [u64; 256],
     /// No number is greater than this.
     counted: u64,
-    ghost few: { AreFew classes kinds counted },
+    ghost few: { AreBounded classes kinds counted },
 }
 
 impl SumTeller {
@@ -248,7 +252,7 @@ impl Teller for SumTeller {
 
     ghost rest = { sum_rest };
 
-    ghost why = { why_text };
+    ghost why = { why_not };
 
     ghost counted = { λ t. t.counted };
 

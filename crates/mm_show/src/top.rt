@@ -3,11 +3,11 @@ ghost use Rattle.std.specs.Prelude.{Some, map, option_map, string_bytes, None};
 ghost use Rattle.mm_types.specs.{Rose};
 ghost use Rattle.mm_log_check.specs.{IsFaultStatus, Shows, IsRefusedLog};
 ghost use Rattle.mm_log_walk.specs.{Answers, SaysExactly, beside, total_of};
-ghost use Rattle.mm_show.specs.{Form, form_of, word_at, files_of, has_script, has_answers, has_observations, form_said, form_sought, form_why, FileIs, FileFailed};
-ghost use Rattle.mm_show.specs.{unread_text, files_at, IsUnread, LacksFile, usage_text, whole_page};
-ghost use Rattle.mm_show.specs.{bad_row_text, FileHas, IfGood, IsRefusedRow, observed, page_of};
+ghost use Rattle.mm_show.specs.{Form, form_of, asked_word, files_of, has_script, has_answers, has_observations, form_said, form_sought, form_why, FileIs, FileFailed};
+ghost use Rattle.mm_show.specs.{unread_text, files_at, IsUnread, LacksFile, show_usage_text, whole_page};
+ghost use Rattle.mm_show.specs.{bad_row_text, FileHas, IfGood, IsRefusedRow, observed, page_read};
 
-use crate::forms::{Files, Form, asked, word_at};
+use crate::forms::{Files, Form, asked, asked_word};
 use crate::observed::observed;
 use crate::pages::{Named, PageTexts, page_teller};
 use crate::sums::SumTeller;
@@ -118,7 +118,8 @@ fn shown<S: Source, O: Sink>(
 ) -> u8
     ensures answers { Answers (S.left log.old) (S.left log.new) (O.taken out.old) (O.taken out.new)
         (beside script.now answers.now) (form_sought form)
-        (form_said form (page_of page.now named.now) script.now answers.now) (form_why form) result }
+        (form_said form (page_read page.now named.now) script.now answers.now) (form_why form)
+        result }
     ensures later { (S.faults log.old ≤ S.faults log.new) × (O.faults out.old ≤ O.faults out.new) }
     ensures read_fault { result ≡ 4 → Rose (S.faults log.old) (S.faults log.new) }
     ensures out_fault { result ≡ 5 → Rose (O.faults out.old) (O.faults out.new) }
@@ -245,7 +246,7 @@ fn show_beside<S: Source, F: Source, O: Sink>(
         → IfGood (observed script.now answers.now o) (O.taken out.old) (O.taken out.new) result
         (λ packed. Answers (S.left log.old) (S.left log.new) (O.taken out.old) (O.taken out.new)
         (beside script.now answers.now) (form_sought form)
-        (form_said form (whole_page page.now (word_at (map string_bytes words.now) 1) packed)
+        (form_said form (whole_page page.now (asked_word (map string_bytes words.now) 1) packed)
         script.now answers.now) (form_why form) result)
         ⊎ LacksFile (files_at form) (map string_bytes words.now) (O.taken out.old) (O.taken out.new)
         result }
@@ -264,7 +265,7 @@ fn show_beside<S: Source, F: Source, O: Sink>(
     let is_named = has_observations(files_of(form));
     let bytes = match named_bytes(alloc, is_named, observations) {
         Ok(bytes) => bytes,
-        Err(FileFault::Failed) => return unread(alloc, word_at(words, files_at(form) + 2), out),
+        Err(FileFault::Failed) => return unread(alloc, asked_word(words, files_at(form) + 2), out),
         Err(FileFault::NoMemory) => return NO_MEMORY,
     };
     let packed = match observed(alloc, script, answers, &bytes) {
@@ -273,7 +274,7 @@ fn show_beside<S: Source, F: Source, O: Sink>(
         Err(PackFault::NoMemory) => return NO_MEMORY,
     };
     let named = Named {
-        name: word_at(words, 1),
+        name: asked_word(words, 1),
         observations: packed.as_slice(),
     };
     shown(alloc, form, script, answers, page, &named, log, out)
@@ -298,11 +299,13 @@ fn show_form<S: Source, F: Source, O: Sink>(
         → IfGood (observed s a o) (O.taken out.old) (O.taken out.new) result (λ packed.
         Answers (S.left log.old) (S.left log.new) (O.taken out.old) (O.taken out.new) (beside s a)
         (form_sought form)
-        (form_said form (whole_page page.now (word_at (map string_bytes words.now) 1) packed) s a)
+        (form_said form (whole_page page.now (asked_word (map string_bytes words.now) 1) packed) s
+        a)
         (form_why form) result)
         ⊎ LacksFile (files_at form) (map string_bytes words.now) (O.taken out.old) (O.taken out.new) result }
     ensures no_script { has_script (files_of form) ≡ true → script.old ≡ None
-        → IsUnread (word_at (map string_bytes words.now) (files_at form)) (O.taken out.old) (O.taken out.new)
+        → IsUnread (asked_word (map string_bytes words.now) (files_at form)) (O.taken out.old)
+        (O.taken out.new)
         result }
     ensures no_answers { (s : Option (List (List ℕ)))
         → FileIs (has_script (files_of form)) (option_map F.left script.old) s
@@ -326,12 +329,12 @@ fn show_form<S: Source, F: Source, O: Sink>(
     let files = files_of(form);
     let script = match named_lines(alloc, has_script(files), script) {
         Ok(lines) => lines,
-        Err(FileFault::Failed) => return unread(alloc, word_at(words, files_at(form)), out),
+        Err(FileFault::Failed) => return unread(alloc, asked_word(words, files_at(form)), out),
         Err(FileFault::NoMemory) => return NO_MEMORY,
     };
     let answers = match named_lines(alloc, has_answers(files), answers) {
         Ok(lines) => lines,
-        Err(FileFault::Failed) => return unread(alloc, word_at(words, files_at(form) + 1), out),
+        Err(FileFault::Failed) => return unread(alloc, asked_word(words, files_at(form) + 1), out),
         Err(FileFault::NoMemory) => return NO_MEMORY,
     };
     show_beside(
@@ -372,12 +375,13 @@ pub fn run_show<S: Source, F: Source, O: Sink>(
         → FileHas (has_observations (files_of f)) (option_map F.left observations.old) o
         → IfGood (observed s a o) (O.taken out.old) (O.taken out.new) result (λ packed.
         SaysExactly (beside s a) (form_sought f)
-        (form_said f (whole_page page.now (word_at (map string_bytes words.now) 1) packed) s a)
+        (form_said f (whole_page page.now (asked_word (map string_bytes words.now) 1) packed) s a)
         (form_why f) (S.left log.old) (O.taken out.old) (O.taken out.new) result)
         ⊎ LacksFile (files_at f) (map string_bytes words.now) (O.taken out.old) (O.taken out.new) result }
     ensures no_script { (f : Form) → form_of (map string_bytes words.now) ≡ Some f
         → has_script (files_of f) ≡ true → script.old ≡ None
-        → IsUnread (word_at (map string_bytes words.now) (files_at f)) (O.taken out.old) (O.taken out.new)
+        → IsUnread (asked_word (map string_bytes words.now) (files_at f)) (O.taken out.old)
+        (O.taken out.new)
         result }
     ensures no_answers { (f : Form) (s : Option (List (List ℕ)))
         → form_of (map string_bytes words.now) ≡ Some f
@@ -390,7 +394,7 @@ pub fn run_show<S: Source, F: Source, O: Sink>(
         → LacksFile (files_at f) (map string_bytes words.now) (O.taken out.old) (O.taken out.new)
         result }
     ensures usage { form_of (map string_bytes words.now) ≡ None
-        → Shows (O.taken out.old) (O.taken out.new) usage_text 2 result
+        → Shows (O.taken out.old) (O.taken out.new) show_usage_text 2 result
         ⊎ IsRefusedLog (O.taken out.old) (O.taken out.new) result }
     ensures unread { form_of (map string_bytes words.now) ≡ None → S.left log.new ≡ S.left log.old }
     ensures read_fault { (f : Form) → form_of (map string_bytes words.now) ≡ Some f → result ≡ 4

@@ -4,7 +4,7 @@ use Rattle.std.specs.Prelude.{◌==◌, slice_index, Result, Ok, Err, OnOk, OnEr
 use Rattle.std.proofs.lemmas.Bool.{eqb-true}
 use Rattle.mm_types.specs.{Pid, Place, NoMemory}
 use Rattle.mm_move_rules.specs.{same_place}
-use Rattle.mm_transcripts.specs.{at_place, older, older_of, one_age_more, age_by, age_in, AreTouchedBefore}
+use Rattle.mm_transcripts.specs.{at_place, one_older, older_of, one_age_more, age_by, age_by_stamp, AreTouchedBefore}
 
 -- ---- the same place is of one process
 
@@ -23,7 +23,7 @@ some_is e = cc
 pub none_earlier : (counts : ℕ → ℕ) (stamps : Place → Option ℕ) → ((p : Place) → stamps p ≡ None) → AreTouchedBefore counts stamps
 none_earlier counts stamps none = record { earlier = λ p stamp e. let bad : None ≡ Some stamp = sym (none p) ∙ e in cc }
 
-pub no_ages_in : (counts : ℕ → ℕ) (stamps : Place → Option ℕ) → ((p : Place) → stamps p ≡ None) → age_in counts stamps ≡ (λ _. None)
+pub no_ages_in : (counts : ℕ → ℕ) (stamps : Place → Option ℕ) → ((p : Place) → stamps p ≡ None) → age_by_stamp counts stamps ≡ (λ _. None)
 no_ages_in counts stamps none = λ i. λ p. ap (option_map (age_by (counts p.pid.0))) (none p) i
 
 -- ---- a page is mapped
@@ -38,7 +38,7 @@ module _ (counts : ℕ → ℕ) (stamps : Place → Option ℕ) (p : Place) wher
   mapped_earlier old q stamp false e s = old.earlier q stamp s
 
   mapped_age : (q : Place) (b : Bool) → same_place p q ≡ b
-      → option_map (age_by (counts q.pid.0)) (cond b (Some (counts p.pid.0)) (stamps q)) ≡ cond b (Some 0) (age_in counts stamps q)
+      → option_map (age_by (counts q.pid.0)) (cond b (Some (counts p.pid.0)) (stamps q)) ≡ cond b (Some 0) (age_by_stamp counts stamps q)
   mapped_age q true e =
       let there : counts p.pid.0 ≡ counts q.pid.0 = ap counts (same_pid p q e) in
       let none : min 7 (counts q.pid.0 - counts p.pid.0) ≡ 0 = omega (arith, there) in
@@ -50,7 +50,7 @@ module _ (counts : ℕ → ℕ) (stamps : Place → Option ℕ) (p : Place) wher
   unmapped_earlier old q stamp true s = cc
   unmapped_earlier old q stamp false s = old.earlier q stamp s
 
-  unmapped_age : (q : Place) (b : Bool) → option_map (age_by (counts q.pid.0)) (cond b None (stamps q)) ≡ cond b None (age_in counts stamps q)
+  unmapped_age : (q : Place) (b : Bool) → option_map (age_by (counts q.pid.0)) (cond b None (stamps q)) ≡ cond b None (age_by_stamp counts stamps q)
   unmapped_age q true = refl
   unmapped_age q false = refl
 
@@ -64,9 +64,9 @@ earlier_mapped counts stamps new p (Err n) e f old = subst (AreTouchedBefore cou
 
 pub age_mapped : (counts : ℕ → ℕ) (stamps new : Place → Option ℕ) (p : Place) (r : Result (Unit {0}) NoMemory)
     → OnOk r (new ≡ at_place p (Some (counts p.pid.0)) stamps)
-    → OnOk r (age_in counts new ≡ at_place p (Some 0) (age_in counts stamps))
+    → OnOk r (age_by_stamp counts new ≡ at_place p (Some 0) (age_by_stamp counts stamps))
 age_mapped counts stamps new p (Ok u) e =
-    ap (age_in counts) e ∙ (λ i. λ q. mapped_age counts stamps p q (same_place p q) refl i)
+    ap (age_by_stamp counts) e ∙ (λ i. λ q. mapped_age counts stamps p q (same_place p q) refl i)
 age_mapped counts stamps new p (Err n) e = e
 
 pub earlier_unmapped : (counts : ℕ → ℕ) (stamps new : Place → Option ℕ) (p : Place)
@@ -76,9 +76,9 @@ earlier_unmapped counts stamps new p e old =
     (record { earlier = λ q stamp s. unmapped_earlier counts stamps p old q stamp (same_place p q) s })
 
 pub age_unmapped : (counts : ℕ → ℕ) (stamps new : Place → Option ℕ) (p : Place)
-    → new ≡ at_place p None stamps → age_in counts new ≡ at_place p None (age_in counts stamps)
+    → new ≡ at_place p None stamps → age_by_stamp counts new ≡ at_place p None (age_by_stamp counts stamps)
 age_unmapped counts stamps new p e =
-    ap (age_in counts) e ∙ (λ i. λ q. unmapped_age counts stamps p q (same_place p q) i)
+    ap (age_by_stamp counts) e ∙ (λ i. λ q. unmapped_age counts stamps p q (same_place p q) i)
 
 -- ---- an `age` line
 
@@ -89,7 +89,7 @@ module _ (counts : ℕ → ℕ) (k : ℕ) where
 
   older_age : (n : ℕ) (b : Bool) (o : Option ℕ) → ((stamp : ℕ) → o ≡ Some stamp → stamp ≤ counts n)
       → option_map (age_by (cond b (counts n + 1) (counts n))) o
-      ≡ cond b (option_map older (option_map (age_by (counts n)) o)) (option_map (age_by (counts n)) o)
+      ≡ cond b (option_map one_older (option_map (age_by (counts n)) o)) (option_map (age_by (counts n)) o)
   older_age n true None h = refl
   older_age n true (Some stamp) h =
       let one : min 7 (counts n + 1 - stamp) ≡ min 7 (min 7 (counts n - stamp) + 1) = omega (arith, h stamp refl) in
@@ -106,9 +106,9 @@ earlier_older xs ys stamps k (Err n) e f old = subst (λ (c : List ℕ). AreTouc
 
 pub age_older : (xs ys : List ℕ) (stamps : Place → Option ℕ) (pid : Pid) (r : Result (Unit {0}) NoMemory)
     → OnOk r (slice_index ys ≡ one_age_more pid.0 (slice_index xs)) → AreTouchedBefore (slice_index xs) stamps
-    → OnOk r (age_in (slice_index ys) stamps ≡ older_of pid (age_in (slice_index xs) stamps))
+    → OnOk r (age_by_stamp (slice_index ys) stamps ≡ older_of pid (age_by_stamp (slice_index xs) stamps))
 age_older xs ys stamps pid (Ok u) e old =
-    ap (λ (c : ℕ → ℕ). age_in c stamps) e
+    ap (λ (c : ℕ → ℕ). age_by_stamp c stamps) e
     ∙ (λ i. λ p. older_age (slice_index xs) pid.0 p.pid.0 (p.pid.0 == pid.0) (stamps p) (old.earlier p) i)
 age_older xs ys stamps pid (Err n) e old = e
 

@@ -5,7 +5,7 @@ use Rattle.mm_move_rules.specs.{FrameLife, unstarted, after_move}
 use Rattle.mm_move_classes.specs.{MarksOf, no_marks, marks_after, class_of, next_of, Class}
 use Rattle.mm_sentences.specs.declared.facts.Facts.{Facts}
 use Rattle.mm_sentences.specs.{facts_of}
-use Rattle.mm_transcripts.specs.{AgesOf, no_ages, Reason, told_row, first_then, first_behind, ending_text, ages_then, reason_then, rows_from}
+use Rattle.mm_transcripts.specs.{AgesOf, no_ages_known, Reason, row_unless_folded, first_then, first_behind, ending_text, ages_then, reason_then, transcript_rows_from}
 use Rattle.mm_transcripts.specs.{classed_row, rows_rest, unwritten_before, unwritten_end, writes_left}
 use Rattle.mm_log_walk.specs.{Beside, pending, class_then, move_of, Pending}
 use Rattle.mm_log_walk.proofs.{class_known}
@@ -22,8 +22,8 @@ module _ (b : Beside) (whole : Bool) (l : FrameLife) (v : MarksOf) (p : Option P
   -- its own row and those behind, where its class is this one
   abbrev pub rows_behind : List Move → Option Class → Text
   rows_behind ms c =
-      told_row b first_now (next_of ms) m c (facts_of l m) (reason_then b a l m) (after_move l m)
-      ++ rows_from b whole (after_move l m) (marks_after v m) (ages_then b m a) (writes_left b.script w m) (Some m) (first_then c m (next_of ms) first_now) ms
+      row_unless_folded b first_now (next_of ms) m c (facts_of l m) (reason_then b a l m) (after_move l m)
+      ++ transcript_rows_from b whole (after_move l m) (marks_after v m) (ages_then b m a) (writes_left b.script w m) (Some m) (first_then c m (next_of ms) first_now) ms
 
   -- its row waits now, and what stands before it was written
   row_waits : (text : Text) (ms : List Move)
@@ -34,7 +34,7 @@ module _ (b : Beside) (whole : Bool) (l : FrameLife) (v : MarksOf) (p : Option P
       let next : Option Move = next_of ms in
       ap (λ (c : Option Class). ((text ++ row_now) ++ unwritten_before w l m) ++ rows_behind ms c) (class_known l v (move_of p) m next)
       ∙ append_assoc (text ++ row_now) (unwritten_before w l m) (rows_behind ms (class_of l v (move_of p) m next))
-      ∙ append_assoc text row_now (rows_from b whole l v a w (move_of p) first_now (m ∷ ms))
+      ∙ append_assoc text row_now (transcript_rows_from b whole l v a w (move_of p) first_now (m ∷ ms))
 
   pub row_taken : (v' : MarksOf) (p' : Option Pending) (f' : Option Move) (x' : Facts) (r' : Option Reason) (a' : AgesOf) (w' : ℕ) (text row done : Text)
       → row ≡ text ++ row_now → done ≡ row ++ unwritten_before w l m → v' ≡ marks_after v m → p' ≡ Some (pending l v (move_of p) m) → f' ≡ first_now
@@ -64,10 +64,10 @@ row_last b whole v p f x r a w l text row left done e u end =
     ∙ append_assoc text told (unwritten_end whole w l ++ ending_text b whole l.line)
 
 -- nothing was told
-pub row_first : (b : Beside) (whole : Bool) (v : MarksOf) (p : Option Pending) (f : Option Move) (x : Facts) (r : Option Reason) (a : AgesOf) (w : ℕ) → v ≡ no_marks → p ≡ None → f ≡ None → a ≡ no_ages → w ≡ 0
-    → (ms : List Move) → rows_rest b whole v p f x r a w unstarted ms ≡ rows_from b whole unstarted no_marks no_ages 0 None None ms
+pub row_first : (b : Beside) (whole : Bool) (v : MarksOf) (p : Option Pending) (f : Option Move) (x : Facts) (r : Option Reason) (a : AgesOf) (w : ℕ) → v ≡ no_marks → p ≡ None → f ≡ None → a ≡ no_ages_known → w ≡ 0
+    → (ms : List Move) → rows_rest b whole v p f x r a w unstarted ms ≡ transcript_rows_from b whole unstarted no_marks no_ages_known 0 None None ms
 row_first b whole v p f x r a w ev ep ef ea ew ms =
     ap (λ (q : Option Pending). rows_rest b whole v q f x r a w unstarted ms) ep
-    ∙ ap (λ (u : MarksOf). rows_from b whole unstarted u a w None None ms) ev
-    ∙ ap (λ (o : AgesOf). rows_from b whole unstarted no_marks o w None None ms) ea
-    ∙ ap (λ (n : ℕ). rows_from b whole unstarted no_marks no_ages n None None ms) ew
+    ∙ ap (λ (u : MarksOf). transcript_rows_from b whole unstarted u a w None None ms) ev
+    ∙ ap (λ (o : AgesOf). transcript_rows_from b whole unstarted no_marks o w None None ms) ea
+    ∙ ap (λ (n : ℕ). transcript_rows_from b whole unstarted no_marks no_ages_known n None None ms) ew

@@ -28,14 +28,14 @@ adds_next (move.Add k b) (move.Add h c) = is_next_key k h && is_next_block b c
 adds_next m n = false
 
 -- a page comes to be, and right behind it the next
-abbrev pub goes_on : Option Class → Move → Option Move → Bool
-goes_on (Some class.DemandZeroAdded) m (Some n) = adds_next m n
-goes_on (Some class.FilePageAdded) m (Some n) = adds_next m n
-goes_on c m n = false
+abbrev pub folds_with_next : Option Class → Move → Option Move → Bool
+folds_with_next (Some class.DemandZeroAdded) m (Some n) = adds_next m n
+folds_with_next (Some class.FilePageAdded) m (Some n) = adds_next m n
+folds_with_next c m n = false
 
 -- the first of the moves whose rows are one with that of the next move
 abbrev pub first_then : Option Class → Move → Option Move → Option Move → Option Move
-first_then c m next first = if goes_on c m next then Some (unwrap_or first m) else None
+first_then c m next first = if folds_with_next c m next then Some (unwrap_or first m) else None
 
 -- ---- what is said of them
 

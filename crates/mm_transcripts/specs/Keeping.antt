@@ -14,8 +14,8 @@ one_age_more k counts n = if n == k then counts n + 1 else counts n
 abbrev pub age_by : ℕ → ℕ → ℕ
 age_by count stamp = min 7 (count - stamp)
 
-abbrev pub age_in : (ℕ → ℕ) → (Place → Option ℕ) → Place → Option ℕ
-age_in counts stamps p = option_map (age_by (counts p.pid.0)) (stamps p)
+abbrev pub age_by_stamp : (ℕ → ℕ) → (Place → Option ℕ) → Place → Option ℕ
+age_by_stamp counts stamps p = option_map (age_by (counts p.pid.0)) (stamps p)
 
 -- no page was touched after more `age` lines than there were
 pub record AreTouchedBefore (counts : ℕ → ℕ) (stamps : Place → Option ℕ) : Type 0 where

@@ -51,7 +51,7 @@ union_text after [] n = []
 union_text after (x ∷ xs) n = bit_text after x n ++ union_text (after || lies_in x.1 n) xs n
 
 -- the name of a number that has one
-abbrev pub name_text : Number → Text
-name_text x =
+abbrev pub number_name_text : Number → Text
+number_name_text x =
     if is_all_access x.place x.value then codes "FILE_MAP_ALL_ACCESS"
     else union_text false (names_at x.place) x.value

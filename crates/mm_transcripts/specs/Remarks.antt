@@ -8,7 +8,7 @@ use Rattle.mm_types.specs.declared.events.Event.TheVariants as line
 use Rattle.mm_text.specs.{number_of, words_of}
 use Rattle.mm_text.specs.Word.{Word}
 use Rattle.mm_script.specs.{LineFault, parse}
-use Rattle.mm_transcripts.specs.Numbers.{has_name, name_text, name_behind}
+use Rattle.mm_transcripts.specs.Numbers.{has_name, number_name_text, name_behind}
 use Rattle.mm_transcripts.specs.Failures.{failure_name}
 use Rattle.mm_transcripts.specs.declared.numbers.NumberPlace.{NumberPlace}
 use Rattle.mm_transcripts.specs.declared.numbers.NumberPlace.TheVariants as place
@@ -20,7 +20,7 @@ use Rattle.mm_transcripts.specs.declared.numbers.Number.{Number}
 abbrev pub named_numbers : Bool → List Number → Text
 named_numbers after [] = []
 named_numbers after (x ∷ xs) =
-    (if has_name x then name_behind (codes ", ") after (name_text x) else [])
+    (if has_name x then name_behind (codes ", ") after (number_name_text x) else [])
     ++ named_numbers (after || has_name x) xs
 
 -- they stand in brackets, behind this; nothing where no number has a name
@@ -34,27 +34,28 @@ bracketed front numbers =
 abbrev pub placed_number : NumberPlace → ℕ → Number
 placed_number p n = record { place = p; value = n }
 
-abbrev pub numbers_of : Event → List Number
-numbers_of (line.Alloc pid addr size kind prot) =
+abbrev pub numbers_said : Event → List Number
+numbers_said (line.Alloc pid addr size kind prot) =
     placed_number place.Allocation kind ∷ placed_number place.Protection prot ∷ []
-numbers_of (line.Free pid addr size kind) = placed_number place.Allocation kind ∷ []
-numbers_of (line.Protect pid addr size prot) = placed_number place.Protection prot ∷ []
-numbers_of (line.Create pid size flags name) = placed_number place.Section flags ∷ []
-numbers_of (line.CreateFile pid file flags name) = placed_number place.Section flags ∷ []
-numbers_of (line.Map pid handle access offset len addr) = placed_number place.Access access ∷ []
-numbers_of _ = []
+numbers_said (line.Free pid addr size kind) = placed_number place.Allocation kind ∷ []
+numbers_said (line.Protect pid addr size prot) = placed_number place.Protection prot ∷ []
+numbers_said (line.Create pid size flags name) = placed_number place.Section flags ∷ []
+numbers_said (line.CreateFile pid file flags name) = placed_number place.Section flags ∷ []
+numbers_said (line.Map pid handle access offset len addr) = placed_number place.Access access ∷ []
+numbers_said _ = []
 
 -- ---- and of the answer of a `query`
 
 -- what is no number counts as 0, which has no name
-abbrev pub number_at : NumberPlace → Word → Number
-number_at p w = placed_number p (unwrap_or (number_of w.text) 0)
+abbrev pub number_said : NumberPlace → Word → Number
+number_said p w = placed_number p (unwrap_or (number_of w.text) 0)
 
 -- behind `ok` and four more words stand the state, the protection and the type
 abbrev pub told_names : List Word → Text
 told_names (ok ∷ base ∷ region ∷ first ∷ size ∷ state ∷ prot ∷ type ∷ rest) =
     bracketed (codes " ")
-    (number_at place.State state ∷ number_at place.Protection prot ∷ number_at place.Type type ∷ [])
+    (number_said place.State state ∷ number_said place.Protection prot ∷ number_said place.Type type
+    ∷ [])
 told_names _ = []
 
 -- an answer has at most 256 bytes
@@ -64,18 +65,18 @@ told_remark (line.Query pid addr) answer =
 told_remark _ answer = []
 
 -- the name of an error or a status, or the names of what a `query` tells
-abbrev pub named_or : Option Text → Text → Text
-named_or (Some name) other = codes " [" ++ (name ++ codes "]")
-named_or None other = other
+abbrev pub bracketed_or : Option Text → Text → Text
+bracketed_or (Some name) other = codes " [" ++ (name ++ codes "]")
+bracketed_or None other = other
 
 abbrev pub answer_remark : Event → Option Text → Text
 answer_remark e None = []
-answer_remark e (Some answer) = named_or (failure_name answer) (told_remark e answer)
+answer_remark e (Some answer) = bracketed_or (failure_name answer) (told_remark e answer)
 
 -- ---- the line and its answer
 
 abbrev pub event_remark : Event → Option Text → Text
-event_remark e answer = answer_remark e answer ++ bracketed (codes "  ") (numbers_of e)
+event_remark e answer = answer_remark e answer ++ bracketed (codes "  ") (numbers_said e)
 
 abbrev pub remark_by : Result Event LineFault → Option Text → Text
 remark_by (Ok e) answer = event_remark e answer

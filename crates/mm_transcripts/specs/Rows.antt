@@ -10,7 +10,7 @@ use Rattle.mm_move_classes.specs.{Class}
 use Rattle.mm_sentences.specs.declared.facts.Facts.{Facts}
 use Rattle.mm_sentences.specs.{kind_text, sentence_text}
 use Rattle.mm_log_walk.specs.{Beside, line_of}
-use Rattle.mm_transcripts.specs.Folds.{fold_row, goes_on}
+use Rattle.mm_transcripts.specs.Folds.{fold_row, folds_with_next}
 use Rattle.mm_transcripts.specs.Remarks.{remark_text}
 use Rattle.mm_transcripts.specs.Reasons.{words_if}
 use Rattle.mm_transcripts.specs.declared.reasons.Reason.{Reason}
@@ -32,17 +32,17 @@ trimmed (c ∷ cs) =
 abbrev pub printed_byte : ℕ → ℕ
 printed_byte c = if nat_le 32 c && nat_le c 126 then c else 63
 
-abbrev pub printed : Text → Text
-printed text = map printed_byte text
+abbrev pub printable : Text → Text
+printable text = map printed_byte text
 
 -- with spaces up to a width of 46
-abbrev pub padded : Text → Text
-padded text = printed text ++ replicate (46 - length text) 0x20
+abbrev pub padded_column : Text → Text
+padded_column text = printable text ++ replicate (46 - length text) 0x20
 
 -- a line, and its answer if it has one
 abbrev pub answered_row : Text → Text → Text
-answered_row asked [] = printed (trimmed asked)
-answered_row asked (c ∷ cs) = padded asked ++ (codes "  " ++ printed (c ∷ cs))
+answered_row asked [] = printable (trimmed asked)
+answered_row asked (c ∷ cs) = padded_column asked ++ (codes "  " ++ printable (c ∷ cs))
 
 abbrev pub said_text : Option Text → Text
 said_text None = []
@@ -70,18 +70,18 @@ class_sentence_row addressed None x r after = []
 class_sentence_row addressed (Some c) x r after =
     codes "     " ++ (sentence_text addressed c x after ++ (words_if c r ++ 10 ∷ []))
 
-abbrev pub row_text : Beside → Move → Option Class → Facts → Option Reason → FrameLife → Text
-row_text b (move.At n k) c x r after = line_row n k (line_of b.script n) (line_of b.answers n)
-row_text b _ c x r after = class_sentence_row (is_some b.script) c x r after
+abbrev pub move_row_text : Beside → Move → Option Class → Facts → Option Reason → FrameLife → Text
+move_row_text b (move.At n k) c x r after = line_row n k (line_of b.script n) (line_of b.answers n)
+move_row_text b _ c x r after = class_sentence_row (is_some b.script) c x r after
 
 -- with those before it that are told in one with it, from this one on
 abbrev pub folded_row : Beside → Option Move → Move → Option Class → Facts → Option Reason
     → FrameLife → Text
-folded_row b None m c x r after = row_text b m c x r after
+folded_row b None m c x r after = move_row_text b m c x r after
 folded_row b (Some first) m c x r after = fold_row first m
 
 -- nothing yet where the next move goes on with it
-abbrev pub told_row : Beside → Option Move → Option Move → Move → Option Class → Facts
+abbrev pub row_unless_folded : Beside → Option Move → Option Move → Move → Option Class → Facts
     → Option Reason → FrameLife → Text
-told_row b first next m c x r after =
-    if goes_on c m next then [] else folded_row b first m c x r after
+row_unless_folded b first next m c x r after =
+    if folds_with_next c m next then [] else folded_row b first m c x r after

@@ -2,7 +2,7 @@
 -- Profile, "Calls".
 use Rattle.std.specs.Prelude.{◌≡◌, ℕ, List, [], ◌∷◌, ◌++◌, map, Some}
 use Rattle.mm_names.specs.{value_of}
-use Rattle.mm_transcripts.specs.Numbers.{name_text}
+use Rattle.mm_transcripts.specs.Numbers.{number_name_text}
 use Rattle.mm_transcripts.specs.declared.numbers.NumberPlace.{NumberPlace}
 use Rattle.mm_transcripts.specs.declared.numbers.NumberPlace.TheVariants as place
 use Rattle.mm_transcripts.specs.declared.numbers.Number.{Number}
@@ -23,4 +23,4 @@ taken_numbers =
 -- a written script that has the name has the number
 abbrev pub AreReadAgain : List Number → Type 0
 AreReadAgain [] = Unit {0}
-AreReadAgain (x ∷ xs) = (value_of [] (name_text x) ≡ Some x.value) × AreReadAgain xs
+AreReadAgain (x ∷ xs) = (value_of [] (number_name_text x) ≡ Some x.value) × AreReadAgain xs

@@ -2,13 +2,13 @@
 use Rattle.std.specs.Prelude.{List, [], ◌∷◌, ◌++◌, codes, flat_map}
 use Rattle.mm_types.specs.{Text}
 
-abbrev pub rows : List Text → Text
-rows lines = flat_map (λ line. line ++ 10 ∷ []) lines
+abbrev pub rows_text : List Text → Text
+rows_text lines = flat_map (λ line. line ++ 10 ∷ []) lines
 
 -- a page rewritten while its write is in flight
 abbrev pub rewritten_rows : Text
 rewritten_rows =
-    rows (
+    rows_text (
     codes "1  machine 8 8 1 0" ∷
     codes "2  process 1 0 8" ∷
     codes "3  call" ∷
@@ -41,7 +41,7 @@ rewritten_rows =
 -- the smallest working set: its only page goes for the next
 abbrev pub smallest_set_rows : Text
 smallest_set_rows =
-    rows (
+    rows_text (
     codes "1  machine 6 0 1 0" ∷
     codes "2  process 1 0 1" ∷
     codes "3  call" ∷

@@ -12,12 +12,12 @@ use Rattle.mm_log_walk.specs.{line_of}
 
 -- ---- how many write-outs a line may begin yet
 
-abbrev pub writes_of : Event → ℕ
-writes_of (line.Writer n) = n
-writes_of _ = 0
+abbrev pub write_outs_asked : Event → ℕ
+write_outs_asked (line.Writer n) = n
+write_outs_asked _ = 0
 
 abbrev pub writes_by : Result Event LineFault → ℕ
-writes_by (Ok e) = writes_of e
+writes_by (Ok e) = write_outs_asked e
 writes_by (Err f) = 0
 
 -- A line of a script has at most 256 bytes; one that spells no `writer` asks for none.

@@ -2,12 +2,12 @@ ghost use Rattle.std.specs.Prelude.{◌≡◌, ◌≤◌, OnOk, IfSome, option_m
 ghost use Rattle.indexmap.specs.IndexMap.{get};
 ghost use Rattle.mm_move_rules.specs.{same_place};
 ghost use Rattle.mm_replay.specs.Standing.{life as life_of};
-ghost use Rattle.mm_transcripts.specs.Ages.{no_ages, made_valid, made_invalid, touched, aged, keeping};
-ghost use Rattle.mm_transcripts.specs.Ages.{after_move};
+ghost use Rattle.mm_transcripts.specs.Ages.{no_ages_known, age_begun, age_ended, touched, process_aged, keeping};
+ghost use Rattle.mm_transcripts.specs.Ages.{ages_after_move};
 ghost use Rattle.mm_transcripts.specs.Keeping.{AreTouchedBefore};
-ghost use Rattle.mm_transcripts.specs.Lines.{is_ok, is_pending, page_at, address_of, after_access};
+ghost use Rattle.mm_transcripts.specs.Lines.{begins_with_ok, is_pending, page_at_address, address_of_access, after_access};
 ghost use Rattle.mm_transcripts.specs.Lines.{after_begin, touched_if, after_resume, after_age};
-ghost use Rattle.mm_transcripts.specs.Lines.{after_event, after_read, after_line};
+ghost use Rattle.mm_transcripts.specs.Lines.{after_event, after_script_line, after_line};
 ghost use Rattle.mm_transcripts.specs.Reasons.{reason_at};
 
 use crate::reasons::{Reason, is_above_min};
@@ -31,8 +31,8 @@ pub struct Ages {
     ghost earlier: { AreTouchedBefore (slice_index counts) (get same_place stamps) },
 }
 
-fn is_ok(answer: &[u8]) -> bool
-    ensures { result ≡ is_ok answer.now }
+fn begins_with_ok(answer: &[u8]) -> bool
+    ensures { result ≡ begins_with_ok answer.now }
 {
     answer.starts_with(b"ok".as_slice())
 }
@@ -44,8 +44,8 @@ fn is_pending(answer: &[u8]) -> bool
 }
 
 /// The page of an address.
-fn page_at(pid: Pid, addr: u32) -> Place
-    ensures { result ≡ page_at pid addr }
+fn page_at_address(pid: Pid, addr: u32) -> Place
+    ensures { result ≡ page_at_address pid addr }
 {
     Place {
         pid,
@@ -53,8 +53,8 @@ fn page_at(pid: Pid, addr: u32) -> Place
     }
 }
 
-fn address_of(access: &AccessSpec) -> u32
-    ensures { result ≡ address_of access.now }
+fn address_of_access(access: &AccessSpec) -> u32
+    ensures { result ≡ address_of_access access.now }
 {
     match access {
         AccessSpec::Read { addr, .. } => *addr,
@@ -64,11 +64,11 @@ fn address_of(access: &AccessSpec) -> u32
 
 #[tactic(auto, using(crate::proofs::Aged::aged))]
 impl Ages {
-    ghost use Rattle.mm_transcripts.specs.Shown.{ages_of};
+    ghost use Rattle.mm_transcripts.specs.Shown.{ages_shown};
 
     /// Before a log: no page is valid.
     pub fn new(alloc: Global) -> Ages
-        ensures { ages_of result ≡ no_ages }
+        ensures { ages_shown result ≡ no_ages_known }
     {
         Ages {
             stamps: IndexMap::new(alloc),
@@ -79,7 +79,7 @@ impl Ages {
 
     /// The age of a page, 0 to 7; `None` where it is not valid.
     pub(crate) fn age(&self, place: Place) -> Option<u64>
-        ensures age { result ≡ (ages_of self.now).age place }
+        ensures age { result ≡ (ages_shown self.now).age place }
         ensures most { IfSome result (λ age. age ≤ 7) }
     {
         match stamp_of(&self.stamps, place) {
@@ -90,21 +90,21 @@ impl Ages {
 
     /// A page is mapped.
     fn map(&mut self, place: Place) -> Result<(), NoMemory>
-        ensures { OnOk result (ages_of self.new ≡ made_valid place (ages_of self.old)) }
+        ensures { OnOk result (ages_shown self.new ≡ age_begun place (ages_shown self.old)) }
     {
         touch_page(&mut self.stamps, &self.counts, place)
     }
 
     /// A page is unmapped.
     fn unmap(&mut self, place: Place)
-        ensures { ages_of self.new ≡ made_invalid place (ages_of self.old) }
+        ensures { ages_shown self.new ≡ age_ended place (ages_shown self.old) }
     {
         drop_page(&mut self.stamps, &self.counts, place);
     }
 
     /// An access was answered `ok`.
     fn touch(&mut self, place: Place) -> Result<(), NoMemory>
-        ensures { OnOk result (ages_of self.new ≡ touched place (ages_of self.old)) }
+        ensures { OnOk result (ages_shown self.new ≡ touched place (ages_shown self.old)) }
     {
         if self.age(place).is_none() {
             return Ok(());
@@ -114,33 +114,33 @@ impl Ages {
 
     /// The pages of a process are one older.
     fn grow_older(&mut self, pid: Pid) -> Result<(), NoMemory>
-        ensures { OnOk result (ages_of self.new ≡ aged pid (ages_of self.old)) }
+        ensures { OnOk result (ages_shown self.new ≡ process_aged pid (ages_shown self.old)) }
     {
         make_older(&self.stamps, &mut self.counts, pid)
     }
 
     /// A thread keeps an access.
     fn keep(&mut self, tid: Tid, place: Place) -> Result<(), NoMemory>
-        ensures { OnOk result (ages_of self.new ≡ keeping tid place (ages_of self.old)) }
+        ensures { OnOk result (ages_shown self.new ≡ keeping tid place (ages_shown self.old)) }
     {
         set_kept(&mut self.kept, tid, place)
     }
 
     fn access(&mut self, place: Place, answer: &[u8]) -> Result<(), NoMemory>
-        ensures { OnOk result (ages_of self.new
-            ≡ after_access place answer.now (ages_of self.old)) }
+        ensures { OnOk result (ages_shown self.new
+            ≡ after_access place answer.now (ages_shown self.old)) }
     {
-        if !is_ok(answer) {
+        if !begins_with_ok(answer) {
             return Ok(());
         }
         self.touch(place)
     }
 
     fn begin(&mut self, tid: Tid, place: Place, answer: &[u8]) -> Result<(), NoMemory>
-        ensures { OnOk result (ages_of self.new
-            ≡ after_begin tid place answer.now (ages_of self.old)) }
+        ensures { OnOk result (ages_shown self.new
+            ≡ after_begin tid place answer.now (ages_shown self.old)) }
     {
-        if is_ok(answer) {
+        if begins_with_ok(answer) {
             return self.touch(place);
         }
         if is_pending(answer) {
@@ -150,8 +150,8 @@ impl Ages {
     }
 
     fn touch_kept(&mut self, tid: Tid) -> Result<(), NoMemory>
-        ensures { OnOk result (ages_of self.new
-            ≡ touched_if ((ages_of self.old).kept tid) (ages_of self.old)) }
+        ensures { OnOk result (ages_shown self.new
+            ≡ touched_if ((ages_shown self.old).kept tid) (ages_shown self.old)) }
     {
         match kept_by(&self.kept, tid) {
             Some(place) => self.touch(place),
@@ -160,18 +160,19 @@ impl Ages {
     }
 
     fn resume(&mut self, tid: Tid, answer: &[u8]) -> Result<(), NoMemory>
-        ensures { OnOk result (ages_of self.new ≡ after_resume tid answer.now (ages_of self.old)) }
+        ensures { OnOk result
+            (ages_shown self.new ≡ after_resume tid answer.now (ages_shown self.old)) }
     {
-        if !is_ok(answer) {
+        if !begins_with_ok(answer) {
             return Ok(());
         }
         self.touch_kept(tid)
     }
 
     fn age_line(&mut self, pid: Pid, answer: &[u8]) -> Result<(), NoMemory>
-        ensures { OnOk result (ages_of self.new ≡ after_age pid answer.now (ages_of self.old)) }
+        ensures { OnOk result (ages_shown self.new ≡ after_age pid answer.now (ages_shown self.old)) }
     {
-        if !is_ok(answer) {
+        if !begins_with_ok(answer) {
             return Ok(());
         }
         self.grow_older(pid)
@@ -179,15 +180,19 @@ impl Ages {
 
     /// What a line was answered.
     fn event(&mut self, event: &Event, answer: &[u8]) -> Result<(), NoMemory>
-        ensures { OnOk result (ages_of self.new
-            ≡ after_event event.now answer.now (ages_of self.old)) }
+        ensures { OnOk result (ages_shown self.new
+            ≡ after_event event.now answer.now (ages_shown self.old)) }
     {
         match event {
-            Event::Read { pid, addr, .. } => self.access(page_at(*pid, *addr), answer),
-            Event::Write { pid, addr, .. } => self.access(page_at(*pid, *addr), answer),
-            Event::Exec { pid, addr } => self.access(page_at(*pid, *addr), answer),
+            Event::Read { pid, addr, .. } => self.access(page_at_address(*pid, *addr), answer),
+            Event::Write { pid, addr, .. } => self.access(page_at_address(*pid, *addr), answer),
+            Event::Exec { pid, addr } => self.access(page_at_address(*pid, *addr), answer),
             Event::Begin { tid, pid, access } => {
-                self.begin(*tid, page_at(*pid, address_of(access)), answer)
+                self.begin(
+                    *tid,
+                    page_at_address(*pid, address_of_access(access)),
+                    answer,
+                )
             }
             Event::Resume { tid } => self.resume(*tid, answer),
             Event::Age { pid } => self.age_line(*pid, answer),
@@ -195,10 +200,10 @@ impl Ages {
         }
     }
 
-    #[tactic(auto, unfolding(crate::specs::Lines::after_read))]
+    #[tactic(auto, unfolding(crate::specs::Lines::after_script_line))]
     fn read_line(&mut self, line: &[u8], answer: &[u8]) -> Result<(), NoMemory>
-        ensures { OnOk result (ages_of self.new
-            ≡ after_read line.now answer.now (ages_of self.old)) }
+        ensures { OnOk result (ages_shown self.new
+            ≡ after_script_line line.now answer.now (ages_shown self.old)) }
     {
         if line.len() > 256 {
             return Ok(());
@@ -216,8 +221,8 @@ impl Ages {
         line: Option<&[u8]>,
         answer: Option<&[u8]>,
     ) -> Result<(), NoMemory>
-        ensures { OnOk result (ages_of self.new ≡ after_line (option_map (λ l. l.now) line.entry)
-            (option_map (λ a. a.now) answer.entry) (ages_of self.old)) }
+        ensures { OnOk result (ages_shown self.new ≡ after_line (option_map (λ l. l.now) line.entry)
+            (option_map (λ a. a.now) answer.entry) (ages_shown self.old)) }
     {
         match (line, answer) {
             (Some(line), Some(answer)) => self.read_line(line, answer),
@@ -227,7 +232,7 @@ impl Ages {
 
     /// A move is made. The only error is that memory is refused.
     pub(crate) fn moved(&mut self, m: &Move) -> Result<(), NoMemory>
-        ensures { OnOk result (ages_of self.new ≡ after_move m.now (ages_of self.old)) }
+        ensures { OnOk result (ages_shown self.new ≡ ages_after_move m.now (ages_shown self.old)) }
     {
         match *m {
             Move::Map(_, place) => self.map(place),
@@ -242,7 +247,7 @@ impl Ages {
     /// How a page stood that this move takes from its working set; `None` for other moves. `life`
     /// is the replay before the move, and the ages are those before it.
     pub(crate) fn reason(&self, life: &Life, m: &Move) -> Option<Reason>
-        ensures { result ≡ reason_at (ages_of self.now) (life_of life.now) m.now }
+        ensures { result ≡ reason_at (ages_shown self.now) (life_of life.now) m.now }
     {
         match *m {
             Move::Unmap(place) => Some(Reason {

@@ -1,6 +1,6 @@
 ghost use Rattle.std.specs.Prelude.{◌≡◌, ◌++◌, ◌+◌, OnOk, option_map, codes, is_some};
 ghost use Rattle.mm_log_walk.specs.{beside, line_of};
-ghost use Rattle.mm_transcripts.specs.{cut_text, end_text, ending_text, line_is};
+ghost use Rattle.mm_transcripts.specs.{cut_text, run_end_text, ending_text, line_words};
 
 use mm_log_walk::{Lines, is_bad_text, is_long_text};
 use mm_sentences::{put_number, put_words};
@@ -9,7 +9,7 @@ use mm_types::NoMemory;
 /// Writes what a line is.
 #[tactic(auto, using(mm_sentences::proofs::Joined::joined))]
 fn put_line_is(n: u64, words: &[u8], text: &mut Vec<u8>) -> Result<(), NoMemory>
-    ensures { OnOk result (text.new.items ≡ text.old.items ++ line_is n words.now) }
+    ensures { OnOk result (text.new.items ≡ text.old.items ++ line_words n words.now) }
 {
     put_words(b"line ", text)?;
     put_number(n, text)?;
@@ -31,7 +31,7 @@ fn put_cut(more: bool, n: u64, text: &mut Vec<u8>) -> Result<(), NoMemory>
 /// `more` is whether the script goes on with this line.
 fn put_end(more: bool, n: u64, answer: Option<&[u8]>, text: &mut Vec<u8>) -> Result<(), NoMemory>
     ensures { OnOk result (text.new.items ≡ text.old.items
-        ++ end_text more n (option_map (λ a. a.now) answer.entry)) }
+        ++ run_end_text more n (option_map (λ a. a.now) answer.entry)) }
 {
     let Some(answer) = answer else {
         return put_cut(more, n, text);

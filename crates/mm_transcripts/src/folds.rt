@@ -1,6 +1,6 @@
 ghost use Rattle.std.specs.Prelude.{◌≡◌, ◌++◌, None, OnOk, Some, option_map};
 ghost use Rattle.mm_types.specs.declared.moves.Move.TheVariants as move;
-ghost use Rattle.mm_transcripts.specs.{is_next_key, is_next_block, adds_next, goes_on, first_then, blocks_text, keys_text, fold_text, fold_row};
+ghost use Rattle.mm_transcripts.specs.{is_next_key, is_next_block, adds_next, folds_with_next, first_then, blocks_text, keys_text, fold_text, fold_row};
 
 use mm_move_classes::Class;
 use mm_sentences::{put_key, put_number, put_words};
@@ -44,8 +44,8 @@ fn adds_next(m: &Move, next: &Move) -> bool
 }
 
 /// Whether a page comes to be by a move of this class, and right behind it the next.
-pub(crate) fn goes_on(class: Option<Class>, m: &Move, next: Option<&Move>) -> bool
-    ensures { result ≡ goes_on class m.now (option_map (λ n. n.now) next.entry) }
+pub(crate) fn folds_with_next(class: Option<Class>, m: &Move, next: Option<&Move>) -> bool
+    ensures { result ≡ folds_with_next class m.now (option_map (λ n. n.now) next.entry) }
 {
     match (class, next) {
         (Some(Class::DemandZeroAdded), Some(next)) => adds_next(m, next),
@@ -63,7 +63,7 @@ pub(crate) fn first_then(
 ) -> Option<Move>
     ensures { result ≡ first_then class m.now (option_map (λ n. n.now) next.entry) first }
 {
-    if goes_on(class, m, next) {
+    if folds_with_next(class, m, next) {
         Some(first.unwrap_or(*m))
     } else {
         None

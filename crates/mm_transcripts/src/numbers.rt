@@ -1,6 +1,6 @@
 ghost use Rattle.std.specs.Prelude.{◌≡◌, ◌++◌, ◌∷◌, ℕ, List, OnOk, IfOk, false, map};
 ghost use Rattle.mm_transcripts.specs.Numbers.{names_at, bits_of, lies_in, is_all_access, has_name};
-ghost use Rattle.mm_transcripts.specs.Numbers.{name_behind, union_text, name_text};
+ghost use Rattle.mm_transcripts.specs.Numbers.{name_behind, union_text, number_name_text};
 ghost use Rattle.mm_transcripts.specs.Bits.{bit_row};
 
 use mm_types::NoMemory;
@@ -154,7 +154,7 @@ fn put_bits(bits: &[NamedBit], value: u32, text: &mut Vec<u8>) -> Result<(), NoM
 
 /// Writes the name of a number that has one.
 pub(crate) fn put_name(number: Number, text: &mut Vec<u8>) -> Result<(), NoMemory>
-    ensures { OnOk result (text.new.items ≡ text.old.items ++ name_text number) }
+    ensures { OnOk result (text.new.items ≡ text.old.items ++ number_name_text number) }
 {
     if is_all_access(number) {
         text.extend_from_slice(b"FILE_MAP_ALL_ACCESS")?;

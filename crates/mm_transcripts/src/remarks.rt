@@ -2,7 +2,7 @@ ghost use Rattle.std.specs.Prelude.{◌≡◌, ◌++◌, List, ◌<◌, ◌+◌,
 ghost use Rattle.std.specs.Prelude.{length, option_map, unwrap_or, [], ◌∷◌, Some};
 ghost use Rattle.std.specs.List.{list_any};
 ghost use Rattle.mm_text.specs.{number_of, words_of};
-ghost use Rattle.mm_transcripts.specs.{Number, has_name, named_numbers, bracketed, numbers_of, told_names, told_remark, named_or, answer_remark};
+ghost use Rattle.mm_transcripts.specs.{Number, has_name, named_numbers, bracketed, numbers_said, told_names, told_remark, bracketed_or, answer_remark};
 ghost use Rattle.mm_transcripts.specs.{event_remark, remark_by, remark_text};
 
 use crate::failures::failure_name;
@@ -78,7 +78,7 @@ fn put_bracketed(front: &[u8], numbers: &[Number], text: &mut Vec<u8>) -> Result
 /// Writes the names of a line's numbers.
 fn put_line_names(event: &Event, text: &mut Vec<u8>) -> Result<(), NoMemory>
     ensures { OnOk result (text.new.items
-        ≡ text.old.items ++ bracketed (codes "  ") (numbers_of event.now)) }
+        ≡ text.old.items ++ bracketed (codes "  ") (numbers_said event.now)) }
 {
     match event {
         Event::Alloc { form, prot, .. } => {

@@ -1,6 +1,6 @@
 ghost use Rattle.std.specs.Prelude.{◌≡◌, ◌-◌, ◌++◌, OnOk, replicate, option_map};
 ghost use Rattle.mm_replay.specs.Standing.{life as life_of};
-ghost use Rattle.mm_transcripts.specs.{words_if, trimmed, printed, printed_byte, padded, answered_row, asked_row, said_text, names_text, line_row};
+ghost use Rattle.mm_transcripts.specs.{words_if, trimmed, printable, printed_byte, padded_column, answered_row, asked_row, said_text, names_text, line_row};
 ghost use Rattle.mm_transcripts.specs.{class_sentence_row};
 
 use crate::reasons::{Reason, put_reason};
@@ -46,7 +46,7 @@ fn printed_byte(byte: u8) -> u8
 
 /// Writes the bytes of a line or of an answer as a terminal shows them.
 fn put_printed(bytes: &[u8], text: &mut Vec<u8>) -> Result<(), NoMemory>
-    ensures { OnOk result (text.new.items ≡ text.old.items ++ printed bytes.now) }
+    ensures { OnOk result (text.new.items ≡ text.old.items ++ printable bytes.now) }
 {
     for byte in bytes {
         text.push(printed_byte(*byte))?;
@@ -57,7 +57,7 @@ fn put_printed(bytes: &[u8], text: &mut Vec<u8>) -> Result<(), NoMemory>
 /// Writes a line, and spaces up to a width of 46.
 #[tactic(auto, using(mm_sentences::proofs::Joined::joined))]
 fn put_padded(line: &[u8], text: &mut Vec<u8>) -> Result<(), NoMemory>
-    ensures { OnOk result (text.new.items ≡ text.old.items ++ padded line.now) }
+    ensures { OnOk result (text.new.items ≡ text.old.items ++ padded_column line.now) }
 {
     put_printed(line, text)?;
     put_spaces(46usize.saturating_sub(line.len()), text)

@@ -1,7 +1,7 @@
 ghost use Rattle.std.specs.Prelude.{◌≡◌, OnOk, OnErr, None, Some, slice_index};
 ghost use Rattle.indexmap.specs.IndexMap.{get};
 ghost use Rattle.mm_move_rules.specs.{same_place};
-ghost use Rattle.mm_transcripts.specs.{at_place, at_thread, older_of, AreTouchedBefore, age_in, one_age_more, same_thread};
+ghost use Rattle.mm_transcripts.specs.{at_place, at_thread, older_of, AreTouchedBefore, age_by_stamp, one_age_more, same_thread};
 
 use indexmap::IndexMap;
 use mm_types::{NoMemory, Pid, Place, Tid};
@@ -88,8 +88,9 @@ pub(crate) fn touch_page(
 ) -> Result<(), NoMemory>
     ensures earlier { AreTouchedBefore (slice_index counts.now) (get same_place stamps.old)
         → AreTouchedBefore (slice_index counts.now) (get same_place stamps.new) }
-    ensures age { OnOk result (age_in (slice_index counts.now) (get same_place stamps.new)
-        ≡ at_place place (Some 0) (age_in (slice_index counts.now) (get same_place stamps.old))) }
+    ensures age { OnOk result (age_by_stamp (slice_index counts.now) (get same_place stamps.new)
+        ≡ at_place place (Some 0)
+        (age_by_stamp (slice_index counts.now) (get same_place stamps.old))) }
 {
     set_stamp(stamps, place, count_of(counts, place.pid))
 }
@@ -99,8 +100,8 @@ pub(crate) fn touch_page(
 pub(crate) fn drop_page(stamps: &mut IndexMap<Place, u64>, counts: &[u64; 256], place: Place)
     ensures earlier { AreTouchedBefore (slice_index counts.now) (get same_place stamps.old)
         → AreTouchedBefore (slice_index counts.now) (get same_place stamps.new) }
-    ensures age { age_in (slice_index counts.now) (get same_place stamps.new)
-        ≡ at_place place None (age_in (slice_index counts.now) (get same_place stamps.old)) }
+    ensures age { age_by_stamp (slice_index counts.now) (get same_place stamps.new)
+        ≡ at_place place None (age_by_stamp (slice_index counts.now) (get same_place stamps.old)) }
 {
     remove_stamp(stamps, place);
 }
@@ -115,8 +116,8 @@ pub(crate) fn make_older(
     ensures earlier { AreTouchedBefore (slice_index counts.old) (get same_place stamps.now)
         → AreTouchedBefore (slice_index counts.new) (get same_place stamps.now) }
     ensures age { AreTouchedBefore (slice_index counts.old) (get same_place stamps.now)
-        → OnOk result (age_in (slice_index counts.new) (get same_place stamps.now)
-        ≡ older_of pid (age_in (slice_index counts.old) (get same_place stamps.now))) }
+        → OnOk result (age_by_stamp (slice_index counts.new) (get same_place stamps.now)
+        ≡ older_of pid (age_by_stamp (slice_index counts.old) (get same_place stamps.now))) }
 {
     count_line(counts, pid)
 }

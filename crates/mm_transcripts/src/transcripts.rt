@@ -3,17 +3,17 @@ ghost use Rattle.mm_types.specs.{Move};
 ghost use Rattle.mm_move_rules.specs.{unstarted};
 ghost use Rattle.mm_replay.specs.Standing.{life as life_of};
 ghost use Rattle.mm_log_walk.specs.{line_of};
-ghost use Rattle.mm_transcripts.specs.Shown.{ages_of};
-ghost use Rattle.mm_transcripts.specs.Rows.{folded_row, row_text, told_row};
+ghost use Rattle.mm_transcripts.specs.Shown.{ages_shown};
+ghost use Rattle.mm_transcripts.specs.Rows.{folded_row, move_row_text, row_unless_folded};
 ghost use Rattle.mm_transcripts.specs.Transcripts.{has_ages, ages_then, reason_then};
 ghost use Rattle.mm_transcripts.specs.Transcripts.{transcript};
 ghost use Rattle.mm_transcripts.specs.Writers.{writes_left};
 ghost use Rattle.mm_transcripts.specs.Waiting.{classed_row, first_behind, transcript_rest};
-ghost use Rattle.mm_sentences.specs.{why_text};
+ghost use Rattle.mm_sentences.specs.{why_not};
 
 use crate::ages::Ages;
 use crate::ends::put_ending;
-use crate::folds::{first_then, goes_on, put_fold_row};
+use crate::folds::{first_then, folds_with_next, put_fold_row};
 use crate::reasons::Reason;
 use crate::rows::{put_class_row, put_line_row};
 use crate::writers::{put_unwritten_before, put_unwritten_end, writes_asked};
@@ -47,9 +47,9 @@ pub fn follow_ages(
     m: &Move,
     ages: &mut Ages,
 ) -> Result<(), NoMemory>
-    ensures { OnOk result (ages_of ages.new
+    ensures { OnOk result (ages_shown ages.new
         ≡ ages_then (record { script = script.now; answers = answers.now }) m.now
-        (ages_of ages.old)) }
+        (ages_shown ages.old)) }
 {
     if !has_ages(script, answers) {
         return Ok(());
@@ -69,7 +69,7 @@ pub fn reason_then(
     m: &Move,
 ) -> Option<Reason>
     ensures { result ≡ reason_then (record { script = script.now; answers = answers.now })
-        (ages_of ages.now) (life_of life.now) m.now }
+        (ages_shown ages.now) (life_of life.now) m.now }
 {
     if has_ages(script, answers) {
         ages.reason(life, m)
@@ -89,7 +89,7 @@ fn put_row(
     text: &mut Vec<u8>,
 ) -> Result<(), NoMemory>
     ensures { OnOk result (text.new.items ≡ text.old.items
-        ++ row_text (record { script = script.now; answers = answers.now }) told.now.m
+        ++ move_row_text (record { script = script.now; answers = answers.now }) told.now.m
         told.now.class facts.now reason.now (life_of after.now)) }
 {
     match told.m {
@@ -139,11 +139,11 @@ fn put_told(
     text: &mut Vec<u8>,
 ) -> Result<(), NoMemory>
     ensures { OnOk result (text.new.items ≡ text.old.items
-        ++ told_row (record { script = script.now; answers = answers.now }) first.now
+        ++ row_unless_folded (record { script = script.now; answers = answers.now }) first.now
         (option_map (λ n. n.now) next.entry) told.now.m told.now.class facts.now reason.now
         (life_of after.now)) }
 {
-    if goes_on(told.class, &told.m, next) {
+    if folds_with_next(told.class, &told.m, next) {
         return Ok(());
     }
     put_folded(script, answers, first, told, facts, reason, after, text)
@@ -243,7 +243,7 @@ impl<'a> Teller for TranscriptTeller<'a> {
 
     ghost counted = { λ t. 0 };
 
-    ghost why = { why_text };
+    ghost why = { why_not };
 
     fn take(&mut self, life: &Life, m: &Move, text: &mut Vec<u8>) -> Result<(), NoMemory> {
         let before = self.classifier.next(life, m)?;

@@ -1,6 +1,6 @@
 ghost use Rattle.std.specs.Prelude.{◌≡◌, ◌++◌, OnOk, option_map};
 ghost use Rattle.mm_replay.specs.Standing.{life as life_of};
-ghost use Rattle.mm_transcripts.specs.{writes_of, writes_read, writes_asked, modified_pages, lacks_slots, unwritten_pages, unwritten_row};
+ghost use Rattle.mm_transcripts.specs.{write_outs_asked, writes_read, writes_asked, modified_pages, lacks_slots, unwritten_pages, unwritten_row};
 ghost use Rattle.mm_transcripts.specs.{unwritten_text, unwritten_before, unwritten_end};
 
 use mm_replay::{FrameList, Life};
@@ -8,8 +8,8 @@ use mm_script::parse_line;
 use mm_sentences::{put_number, put_words};
 use mm_types::{Event, Move, NoMemory};
 
-fn writes_of(event: &Event) -> u32
-    ensures { result ≡ writes_of event.now }
+fn write_outs_asked(event: &Event) -> u32
+    ensures { result ≡ write_outs_asked event.now }
 {
     match event {
         Event::Writer { count } => *count,
@@ -26,7 +26,7 @@ fn writes_read(line: &[u8]) -> u32
         return 0;
     }
     match parse_line(line) {
-        Ok(event) => writes_of(&event),
+        Ok(event) => write_outs_asked(&event),
         Err(_) => 0,
     }
 }

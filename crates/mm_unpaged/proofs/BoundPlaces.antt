@@ -10,8 +10,7 @@ use Rattle.std.proofs.lemmas.List.Sums.{sum_by-cons}
 use Rattle.std.proofs.lemmas.Map.Entries.{sum_by-set_value, sum_by_values_permutation, sum_by-remove_entry}
 use Rattle.mm_types.specs.{holds_page, Pid, Place}
 use Rattle.mm_store.specs.{changed, changed_in, same_place, place_at}
-use Rattle.mm_unpaged.specs.{BoundPlace, place_eq, page_count, pages_from}
-use Rattle.mm_unpaged.specs.Places.{page_of}
+use Rattle.mm_unpaged.specs.{BoundPlace, place_eq, page_count, range_from, page_in_place}
 
 -- ---- the map
 
@@ -56,14 +55,14 @@ module _ {S : Type 0} (m n : HashMap Place BoundPlace S) where
   count_by_insert k w (Some old) puts new none = cc
 
   -- a place without a page is bound no more
-  pub count_by_remove : (k : Place) → IsPermutation (remove_entry (place_eq k) m.entries) n.entries → page_of (get place_eq m k) ≡ None → sum_by page_count (values n) ≡ sum_by page_count (values m)
+  pub count_by_remove : (k : Place) → IsPermutation (remove_entry (place_eq k) m.entries) n.entries → page_in_place (get place_eq m k) ≡ None → sum_by page_count (values n) ≡ sum_by page_count (values m)
   count_by_remove k perm dead =
       let none : unwrap_or (option_map page_count (get place_eq m k)) 0 ≡ 0 = counts_none (get place_eq m k) dead in
       let all = sum_by-remove_entry page_count (place_eq k) m.entries in
       let same = sum_by_values_permutation page_count (remove_entry (place_eq k) m.entries) n.entries perm in
       omega (arith, none, all, same)
     where
-      counts_none : (o : Option BoundPlace) → page_of o ≡ None → unwrap_or (option_map page_count o) 0 ≡ 0
+      counts_none : (o : Option BoundPlace) → page_in_place o ≡ None → unwrap_or (option_map page_count o) 0 ≡ 0
       counts_none None e = refl
       counts_none (Some b) e = ap (λ p. if is_some p then 1 else 0) e
 
@@ -79,29 +78,29 @@ none_there (Some b) e = cc
 
 -- ---- functions of places, changed page by page
 
-no_page_held : (first p : ℕ) → holds_page (pages_from first 0) p ≡ false
+no_page_held : (first p : ℕ) → holds_page (range_from first 0) p ≡ false
 no_page_held first p = grind arith
 
-one_more_held : (first i p : ℕ) → holds_page (pages_from first (i + 1)) p ≡ ((p == first + i) || holds_page (pages_from first i) p)
+one_more_held : (first i p : ℕ) → holds_page (range_from first (i + 1)) p ≡ ((p == first + i) || holds_page (range_from first i) p)
 one_more_held first i p = grind arith
 
-past_held : (first i : ℕ) → holds_page (pages_from first i) (first + i) ≡ false
+past_held : (first i : ℕ) → holds_page (range_from first i) (first + i) ≡ false
 past_held first i = grind arith
 
-pub held : (first n i : ℕ) → i < n → holds_page (pages_from first n) (first + i) ≡ true
+pub held : (first n i : ℕ) → i < n → holds_page (range_from first n) (first + i) ≡ true
 held first n i h = grind arith
 
 module _ {V : Type 0} (pid : Pid) (first : ℕ) (f : Place → V) (v : V) where
-  pub changed_none : changed_in pid (pages_from first 0) f v ≡ f
+  pub changed_none : changed_in pid (range_from first 0) f v ≡ f
   changed_none = λ i. λ (q : Place). at q (q.pid.0 == pid.0) i
     where
-      at : (q : Place) (a : Bool) → (if a && holds_page (pages_from first 0) q.vpn.0 then v else f q) ≡ f q
+      at : (q : Place) (a : Bool) → (if a && holds_page (range_from first 0) q.vpn.0 then v else f q) ≡ f q
       at q true = ap (λ (b : Bool). if b then v else f q) (no_page_held first q.vpn.0)
       at q false = refl
 
   -- the next page after those that are changed already
-  pub changed_more : (n : ℕ) → changed same_place (changed_in pid (pages_from first n) f v) (place_at pid (first + n)) v ≡ changed_in pid (pages_from first (n + 1)) f v
-  changed_more n = λ i. λ (q : Place). (at q (q.pid.0 == pid.0) (q.vpn.0 == first + n) (holds_page (pages_from first n) q.vpn.0)
+  pub changed_more : (n : ℕ) → changed same_place (changed_in pid (range_from first n) f v) (place_at pid (first + n)) v ≡ changed_in pid (range_from first (n + 1)) f v
+  changed_more n = λ i. λ (q : Place). (at q (q.pid.0 == pid.0) (q.vpn.0 == first + n) (holds_page (range_from first n) q.vpn.0)
       ∙ ap (λ (b : Bool). if (q.pid.0 == pid.0) && b then v else f q) (sym (one_more_held first n q.vpn.0))) i
     where
       at : (q : Place) (a b c : Bool) → (if a && b then v else if a && c then v else f q) ≡ (if a && (b || c) then v else f q)
@@ -109,10 +108,10 @@ module _ {V : Type 0} (pid : Pid) (first : ℕ) (f : Place → V) (v : V) where
       at q true false c = refl
       at q false b c = refl
 
-  pub next_unchanged : (n : ℕ) → changed_in pid (pages_from first n) f v (place_at pid (first + n)) ≡ f (place_at pid (first + n))
+  pub next_unchanged : (n : ℕ) → changed_in pid (range_from first n) f v (place_at pid (first + n)) ≡ f (place_at pid (first + n))
   next_unchanged n = at (pid.0 == pid.0)
     where
-      at : (a : Bool) → (if a && holds_page (pages_from first n) (first + n) then v else f (place_at pid (first + n))) ≡ f (place_at pid (first + n))
+      at : (a : Bool) → (if a && holds_page (range_from first n) (first + n) then v else f (place_at pid (first + n))) ≡ f (place_at pid (first + n))
       at true = ap (λ (b : Bool). if b then v else f (place_at pid (first + n))) (past_held first n)
       at false = refl
 

@@ -9,10 +9,9 @@ use Rattle.mm_types.specs.{Area, Key, Pid, Place, Vpn}
 use Rattle.mm_types.specs.declared.numbers.Key.TheVariants.{Private, Shared}
 use Rattle.mm_world.specs.{same_key, InFrame, Page, Tally, filled, written}
 use Rattle.mm_store.specs.{changed, same_place}
-use Rattle.mm_unpaged.specs.{AreaPages, FilePage, size_of, area_pages, page_of_area, area_block, shared_page, contents_of, plain_paging, blocks_of}
-use Rattle.mm_unpaged.specs.{sizes_of, whereabouts_of, unpaged_report}
+use Rattle.mm_unpaged.specs.{AreaPages, FilePage, size_of, area_pages, page_of_area, area_block, page_of_area_key, unpaged_contents, plain_paging}
+use Rattle.mm_unpaged.specs.{blocks_of, sizes_of, whereabouts_of, unpaged_report, page_of_block}
 use Rattle.mm_unpaged.specs.declared.areas.AreaPages.TheVariants.{Paged, Filed}
-use Rattle.mm_unpaged.specs.Files.{page_of}
 use Rattle.mm_unpaged.proofs.OpenAreas.{set_at}
 
 -- ---- functions of keys
@@ -60,7 +59,7 @@ written_to C off bytes {k = k} e same = e ∙ ap (λ q. changed same_key C k (So
 -- ---- the page of one key is another one, or none
 
 pub record Becomes (places late : Place → Option Page) (areas after : ℕ → Option AreaPages) (files : List FilePage) (k : Key) (new : Option Page) : Type 0 where
-  pub contents : contents_of late after files ≡ changed same_key (contents_of places areas files) k new
+  pub contents : unpaged_contents late after files ≡ changed same_key (unpaged_contents places areas files) k new
   pub paging : plain_paging late after ≡ changed same_key (plain_paging places areas) k (is_some new)
   pub sizes : sizes_of after ≡ sizes_of areas
   pub block : (b j : ℕ) → area_block (after b) j ≡ area_block (areas b) j
@@ -68,14 +67,14 @@ pub record Becomes (places late : Place → Option Page) (areas after : ℕ → 
 
 pub page_at_place : {places late : Place → Option Page} (areas : ℕ → Option AreaPages) (files : List FilePage) (p : Pid) (v : Vpn) (k : Key) (new : Option Page) → late ≡ changed same_place places (record { pid = p; vpn = v }) new → k ≡ Private p v → Becomes places late areas areas files k new
 page_at_place {places} {late} areas files p v k new e key = subst (λ (q : Key). Becomes places late areas areas files q new) (sym key) (record {
-  contents = ap (λ ps. contents_of ps areas files) e ∙ (λ t. λ (q : Key). (at q) t);
+  contents = ap (λ ps. unpaged_contents ps areas files) e ∙ (λ t. λ (q : Key). (at q) t);
   paging = ap (λ ps. plain_paging ps areas) e ∙ (λ t. λ (q : Key). (live q) t);
   sizes = refl;
   block = λ b j. refl;
   blocks = refl;
 })
   where
-    at : (q : Key) → contents_of (changed same_place places (record { pid = p; vpn = v }) new) areas files q ≡ changed same_key (contents_of places areas files) (Private p v) new q
+    at : (q : Key) → unpaged_contents (changed same_place places (record { pid = p; vpn = v }) new) areas files q ≡ changed same_key (unpaged_contents places areas files) (Private p v) new q
     at (Private q w) = refl
     at (Shared a j) = refl
 
@@ -97,7 +96,7 @@ paged_of (Some (Filed first count)) i h = absurd (omega arith)
 
 -- areas of which no key shows another page or block
 pub record Kept (places : Place → Option Page) (areas after : ℕ → Option AreaPages) (files : List FilePage) : Type 0 where
-  pub contents : contents_of places after files ≡ contents_of places areas files
+  pub contents : unpaged_contents places after files ≡ unpaged_contents places areas files
   pub paging : plain_paging places after ≡ plain_paging places areas
   pub block : (b j : ℕ) → area_block (after b) j ≡ area_block (areas b) j
   pub blocks : blocks_of after ≡ blocks_of areas
@@ -130,9 +129,9 @@ module _ (areas after : ℕ → Option AreaPages) (a : ℕ) (new : Option AreaPa
     blocks = λ t. λ (q : Key). (home q) t;
   }
     where
-      at : (q : Key) → contents_of places after files q ≡ contents_of places areas files q
+      at : (q : Key) → unpaged_contents places after files q ≡ unpaged_contents places areas files q
       at (Private p v) = refl
-      at (Shared b j) = kept_at (λ o. shared_page files (area_block o j) (page_of_area o j)) (λ t. shared_page files (block j t) (page j t)) b.0
+      at (Shared b j) = kept_at (λ o. page_of_area_key files (area_block o j) (page_of_area o j)) (λ t. page_of_area_key files (block j t) (page j t)) b.0
 
       home : (q : Key) → blocks_of after q ≡ blocks_of areas q
       home (Private p v) = refl
@@ -174,9 +173,9 @@ module _ (areas after : ℕ → Option AreaPages) (a : Area) (i : ℕ) (new : Op
     blocks = λ t. λ (q : Key). (home q) t;
   })
     where
-      at : (q : Key) → contents_of places after files q ≡ changed same_key (contents_of places areas files) (Shared a i) new q
+      at : (q : Key) → unpaged_contents places after files q ≡ changed same_key (unpaged_contents places areas files) (Shared a i) new q
       at (Private p v) = refl
-      at (Shared b j) = at_page (shared_page files) b.0 j
+      at (Shared b j) = at_page (page_of_area_key files) b.0 j
 
       live : (q : Key) → plain_paging places after q ≡ changed same_key (plain_paging places areas) (Shared a i) (is_some new) q
       live (Private p v) = refl
@@ -192,11 +191,11 @@ module _ (areas after : ℕ → Option AreaPages) (a : Area) (i : ℕ) (new : Op
 -- ---- a block has another page
 
 module _ (areas : ℕ → Option AreaPages) (files after : List FilePage) (a : Area) (i block : ℕ) (new : FilePage) (at_block : area_block (areas a.0) i ≡ Some block) (near : block < length files) (is : after ≡ slice_set files block new) where
-  pub contents_in_file : ((b j : ℕ) → area_block (areas b) j ≡ Some block → (b ≡ a.0) × (j ≡ i)) → (places : Place → Option Page) (k : Key) → k ≡ Shared a i → contents_of places areas after ≡ changed same_key (contents_of places areas files) k (Some new.page)
+  pub contents_in_file : ((b j : ℕ) → area_block (areas b) j ≡ Some block → (b ≡ a.0) × (j ≡ i)) → (places : Place → Option Page) (k : Key) → k ≡ Shared a i → unpaged_contents places areas after ≡ changed same_key (unpaged_contents places areas files) k (Some new.page)
   contents_in_file alone places k key =
-      ap (λ fs. contents_of places areas fs) is ∙ (λ t. λ (q : Key). (at q) t) ∙ ap (λ q. changed same_key (contents_of places areas files) q (Some new.page)) (sym key)
+      ap (λ fs. unpaged_contents places areas fs) is ∙ (λ t. λ (q : Key). (at q) t) ∙ ap (λ q. changed same_key (unpaged_contents places areas files) q (Some new.page)) (sym key)
     where
-      other : (b : Area) (j : ℕ) → ((b.0 == a.0) && (j == i)) ≡ false → (o : Option ℕ) → area_block (areas b.0) j ≡ o → shared_page (slice_set files block new) o (page_of_area (areas b.0) j) ≡ shared_page files o (page_of_area (areas b.0) j)
+      other : (b : Area) (j : ℕ) → ((b.0 == a.0) && (j == i)) ≡ false → (o : Option ℕ) → area_block (areas b.0) j ≡ o → page_of_area_key (slice_set files block new) o (page_of_area (areas b.0) j) ≡ page_of_area_key files o (page_of_area (areas b.0) j)
       other b j t None e = refl
       other b j t (Some k) e = elim (same_or_not k block) [
         | inl same ↦
@@ -205,16 +204,16 @@ module _ (areas : ℕ → Option AreaPages) (files after : List FilePage) (a : A
             let second : (j == i) ≡ true = (unsigned_Decides j i).1 both.1 in
             let bad : true ≡ false = sym (ap (λ x. x && (j == i)) first ∙ second) ∙ t in
             cc
-        | inr apart ↦ ap page_of (get_set_other files block k new apart)
+        | inr apart ↦ ap page_of_block (get_set_other files block k new apart)
       ]
 
-      split : (b : Area) (j : ℕ) (t : Bool) → ((b.0 == a.0) && (j == i)) ≡ t → shared_page (slice_set files block new) (area_block (areas b.0) j) (page_of_area (areas b.0) j) ≡ (if t then Some new.page else shared_page files (area_block (areas b.0) j) (page_of_area (areas b.0) j))
+      split : (b : Area) (j : ℕ) (t : Bool) → ((b.0 == a.0) && (j == i)) ≡ t → page_of_area_key (slice_set files block new) (area_block (areas b.0) j) (page_of_area (areas b.0) j) ≡ (if t then Some new.page else page_of_area_key files (area_block (areas b.0) j) (page_of_area (areas b.0) j))
       split b j true e =
           let h = and_parts (b.0 == a.0) (j == i) e in
           let there : area_block (areas b.0) j ≡ Some block = ap (λ (n : ℕ). area_block (areas n) j) (eqb-true b.0 a.0 h.0) ∙ ap (λ (n : ℕ). area_block (areas a.0) n) (eqb-true j i h.1) ∙ at_block in
-          ap (λ o. shared_page (slice_set files block new) o (page_of_area (areas b.0) j)) there ∙ ap page_of (get_set_same files block new near)
+          ap (λ o. page_of_area_key (slice_set files block new) o (page_of_area (areas b.0) j)) there ∙ ap page_of_block (get_set_same files block new near)
       split b j false e = other b j e (area_block (areas b.0) j) refl
 
-      at : (q : Key) → contents_of places areas (slice_set files block new) q ≡ changed same_key (contents_of places areas files) (Shared a i) (Some new.page) q
+      at : (q : Key) → unpaged_contents places areas (slice_set files block new) q ≡ changed same_key (unpaged_contents places areas files) (Shared a i) (Some new.page) q
       at (Private p v) = refl
       at (Shared b j) = split b j ((b.0 == a.0) && (j == i)) refl

@@ -7,23 +7,23 @@ use Rattle.mm_types.specs.{Pid, Place, Range, are_user_pages, holds_page, end_of
 use Rattle.mm_types.proofs.{same_or_not, get_set_same, get_set_other, get_within}
 use Rattle.mm_world.specs.{Page}
 use Rattle.mm_store.specs.{changed_in, is_place_in}
-use Rattle.mm_unpaged.specs.{AreaPages, FilePage, area_block, count_in, no_area, Fits, FilesFit, bound_in, pages_in, no_place, StockOf}
+use Rattle.mm_unpaged.specs.{AreaPages, FilePage, area_block, count_in, no_areas, Fits, FilesFit, is_bound_in, pages_in, no_place, StockOf}
 use Rattle.mm_unpaged.specs.declared.areas.Areas.{Areas}
 use Rattle.mm_unpaged.specs.declared.places.Places.{Places}
 
 -- ---- places, areas and boxes
 
 -- places below the end stay below it
-pub fits_then : {a b : Places} {x y : Areas} {s t : StockOf} → Fits a x s → bound_in b ≡ bound_in a → (pages_in b + count_in y) + t.boxes ≡ t.room → Fits b y t
+pub fits_then : {a b : Places} {x y : Areas} {s t : StockOf} → Fits a x s → is_bound_in b ≡ is_bound_in a → (pages_in b + count_in y) + t.boxes ≡ t.room → Fits b y t
 fits_then fits bound boxes = record { boxes = boxes; low = λ p e. fits.low p (sym (ap (λ f. f p) bound) ∙ e) }
 
-pub fits_kept : {a b : Places} {x : Areas} {s : StockOf} → Fits a x s → bound_in b ≡ bound_in a → pages_in b ≡ pages_in a → Fits b x s
+pub fits_kept : {a b : Places} {x : Areas} {s : StockOf} → Fits a x s → is_bound_in b ≡ is_bound_in a → pages_in b ≡ pages_in a → Fits b x s
 fits_kept fits bound count = fits_then fits bound (omega (arith, count, fits.boxes))
 
 pub fits_areas : {a : Places} {x y : Areas} {s : StockOf} → Fits a x s → count_in y ≡ count_in x → Fits a y s
 fits_areas fits count = fits_then fits refl (omega (arith, count, fits.boxes))
 
-pub fits_new : (a : Places) (x : Areas) (s : StockOf) → bound_in a ≡ no_place → pages_in a ≡ 0 → count_in x ≡ 0 → s ≡ record { boxes = 0; room = 0 } → Fits a x s
+pub fits_new : (a : Places) (x : Areas) (s : StockOf) → is_bound_in a ≡ no_place → pages_in a ≡ 0 → count_in x ≡ 0 → s ≡ record { boxes = 0; room = 0 } → Fits a x s
 fits_new a x s bound count none stock = record {
   boxes = omega (arith, count, none, ap (λ (t : StockOf). t.boxes) stock, ap (λ (t : StockOf). t.room) stock);
   low = λ p e. (let bad : false ≡ true = sym (ap (λ f. f p) bound) ∙ e in cc);
@@ -36,27 +36,27 @@ in_range range page user held =
     omega (arith, u, h)
 
 module _ {a b : Places} {x : Areas} {s : StockOf} (pid : Pid) (range : Range) where
-  bound_more : are_user_pages range ≡ true → Fits a x s → bound_in b ≡ changed_in pid range (bound_in a) true → pages_in b ≡ pages_in a → Fits b x s
+  bound_more : are_user_pages range ≡ true → Fits a x s → is_bound_in b ≡ changed_in pid range (is_bound_in a) true → pages_in b ≡ pages_in a → Fits b x s
   bound_more user fits bound count = record {
     boxes = omega (arith, count, fits.boxes);
     low = λ p e. at p (is_place_in pid range p) refl (sym (ap (λ f. f p) bound) ∙ e);
   }
     where
-      at : (p : Place) (t : Bool) → is_place_in pid range p ≡ t → (if t then true else bound_in a p) ≡ true → p.vpn.0 < end_of_user_pages
+      at : (p : Place) (t : Bool) → is_place_in pid range p ≡ t → (if t then true else is_bound_in a p) ≡ true → p.vpn.0 < end_of_user_pages
       at p true e h = in_range range p.vpn.0 user (and_parts (p.pid.0 == pid.0) (holds_page range p.vpn.0) e).1
       at p false e h = fits.low p h
 
-  pub fits_bound : {T E : Type 0} (result : Result T E) → are_user_pages range ≡ true → Fits a x s → OnOk result (bound_in b ≡ changed_in pid range (bound_in a) true) → OnErr result (bound_in b ≡ bound_in a) → pages_in b ≡ pages_in a → Fits b x s
+  pub fits_bound : {T E : Type 0} (result : Result T E) → are_user_pages range ≡ true → Fits a x s → OnOk result (is_bound_in b ≡ changed_in pid range (is_bound_in a) true) → OnErr result (is_bound_in b ≡ is_bound_in a) → pages_in b ≡ pages_in a → Fits b x s
   fits_bound (Ok r) user fits ok err count = bound_more user fits ok count
   fits_bound (Err e) user fits ok err count = fits_kept fits err count
 
-  pub fits_unbound : Fits a x s → bound_in b ≡ changed_in pid range (bound_in a) false → pages_in b ≡ pages_in a → Fits b x s
+  pub fits_unbound : Fits a x s → is_bound_in b ≡ changed_in pid range (is_bound_in a) false → pages_in b ≡ pages_in a → Fits b x s
   fits_unbound fits bound count = record {
     boxes = omega (arith, count, fits.boxes);
     low = λ p e. at p (is_place_in pid range p) (sym (ap (λ f. f p) bound) ∙ e);
   }
     where
-      at : (p : Place) (t : Bool) → (if t then false else bound_in a p) ≡ true → p.vpn.0 < end_of_user_pages
+      at : (p : Place) (t : Bool) → (if t then false else is_bound_in a p) ≡ true → p.vpn.0 < end_of_user_pages
       at p true h = cc
       at p false h = fits.low p h
 
@@ -112,7 +112,7 @@ module _ {areas : ℕ → Option AreaPages} {pages : List FilePage} {blocks : Li
   }
 
 -- no file, no area
-pub files_fit_new : (areas : ℕ → Option AreaPages) (pages : List FilePage) (blocks : List Page) (count : ℕ) → areas ≡ no_area → pages ≡ [] → length blocks ≡ count → count < 2 ^ 32 → FilesFit areas pages blocks count
+pub files_fit_new : (areas : ℕ → Option AreaPages) (pages : List FilePage) (blocks : List Page) (count : ℕ) → areas ≡ no_areas → pages ≡ [] → length blocks ≡ count → count < 2 ^ 32 → FilesFit areas pages blocks count
 files_fit_new areas pages blocks count none empty long few = record {
   near = λ a i b e. (let bad : None ≡ Some b = sym (ap (λ f. area_block (f a) i) none) ∙ e in cc);
   alone = λ a i b j block e f. (let bad : None ≡ Some block = sym (ap (λ g. area_block (g a) i) none) ∙ e in cc);

@@ -10,11 +10,10 @@ use Rattle.mm_types.specs.declared.numbers.Key.TheVariants.{Private, Shared}
 use Rattle.mm_types.proofs.{get_within}
 use Rattle.mm_world.specs.{Page, filled, written}
 use Rattle.mm_store.specs.{changed, same_place, with_file, with_blocks, HasHome}
-use Rattle.mm_unpaged.specs.{AreaPages, FilePage, area_in, size_of, area_pages, page_of_area, area_block, count_of, one_if_live, no_area, IsMade}
-use Rattle.mm_unpaged.specs.{Stored, page_in, made_page, no_page, pages_at, FilesFit, shared_page, contents_of, plain_paging, blocks_of, sizes_of}
-use Rattle.mm_unpaged.specs.{contents_in, store_in}
+use Rattle.mm_unpaged.specs.{AreaPages, FilePage, area_in, size_of, area_pages, page_of_area, area_block, count_of, one_if_live, no_areas, IsMade}
+use Rattle.mm_unpaged.specs.{Stored, page_in, made_page, no_page, pages_at, FilesFit, page_of_area_key, unpaged_contents, plain_paging, blocks_of}
+use Rattle.mm_unpaged.specs.{sizes_of, contents_in, store_in, page_of_block}
 use Rattle.mm_unpaged.specs.declared.areas.AreaPages.TheVariants.{Paged, Filed}
-use Rattle.mm_unpaged.specs.Files.{page_of}
 use Rattle.mm_unpaged.proofs.OpenAreas.{in_file, live_within, none_at}
 use Rattle.mm_unpaged.proofs.Contents.{Becomes, Kept, areas_kept, page_at_place, page_in_area, paging_kept, sizes_changed}
 use Rattle.mm_unpaged.specs.declared.unpaged.Unpaged.{Unpaged}
@@ -32,21 +31,21 @@ none_counted areas mid a new same = ap (λ f. count_of (f a)) same ∙ ap count_
 
 -- ---- an area without live pages
 
-page_there : (fs : List FilePage) (k : ℕ) → k < length fs → page_of (slice_get fs k) ≡ None → ⊥
+page_there : (fs : List FilePage) (k : ℕ) → k < length fs → page_of_block (slice_get fs k) ≡ None → ⊥
 page_there [] k h e = omega arith
 page_there (f ∷ fs) zero h e = cc
 page_there (f ∷ fs) (suc k) h e = page_there fs k (omega arith) e
 
 -- a key that is not live, at an index of an open area, is none of a file
-paged_home : (files : List FilePage) (o : Option AreaPages) (i pages : ℕ) → size_of o ≡ Some pages → i < pages → shared_page files (area_block o i) (page_of_area o i) ≡ None → ((block : ℕ) → area_block o i ≡ Some block → block < length files) → i < length (area_pages o)
+paged_home : (files : List FilePage) (o : Option AreaPages) (i pages : ℕ) → size_of o ≡ Some pages → i < pages → page_of_area_key files (area_block o i) (page_of_area o i) ≡ None → ((block : ℕ) → area_block o i ≡ Some block → block < length files) → i < length (area_pages o)
 paged_home files None i pages size near dead within = cc
 paged_home files (Some (Paged ps)) i pages size near dead within = let same : length ps ≡ pages = cc in omega (arith, near, same)
 paged_home files (Some (Filed first count)) i pages size near dead within =
     let same : count ≡ pages = cc in
     let there = in_file first count i (omega (arith, near, same)) in
-    absurd (page_there files (first + i) (within (first + i) there) (sym (ap (λ b. shared_page files b None) there) ∙ dead))
+    absurd (page_there files (first + i) (within (first + i) there) (sym (ap (λ b. page_of_area_key files b None) there) ∙ dead))
 
-dead_page : (files : List FilePage) (o : Option AreaPages) (j : ℕ) → shared_page files (area_block o j) (page_of_area o j) ≡ None → page_of_area o j ≡ None
+dead_page : (files : List FilePage) (o : Option AreaPages) (j : ℕ) → page_of_area_key files (area_block o j) (page_of_area o j) ≡ None → page_of_area o j ≡ None
 dead_page files None j e = refl
 dead_page files (Some (Paged pages)) j e = e
 dead_page files (Some (Filed first count)) j e = refl
@@ -54,7 +53,7 @@ dead_page files (Some (Filed first count)) j e = refl
 -- a live key without a block is no file's
 pub own_live : {F : Type 0} {d : DeviceGhosts F} (s : Unpaged F d) (k : Key) → blocks_of (area_in s.areas) k ≡ None → IsSome (contents_in s k) → plain_paging (pages_at s.places) (area_in s.areas) k ≡ true
 own_live s (Private p v) e h = h
-own_live s (Shared a i) e h = subst (λ b. IsSome (shared_page s.file_pages.items b (page_of_area (area_in s.areas a.0) i))) e h
+own_live s (Shared a i) e h = subst (λ b. IsSome (page_of_area_key s.file_pages.items b (page_of_area (area_in s.areas a.0) i))) e h
 
 module _ {F : Type 0} {d : DeviceGhosts F} (s : Unpaged F d) {k : Key} where
   -- a key that comes to be in an area has its index there, and no page
@@ -68,8 +67,8 @@ module _ {F : Type 0} {d : DeviceGhosts F} (s : Unpaged F d) {k : Key} where
   live_near {a} {i} is live = live_within (area_pages (area_in s.areas a.0)) i (sym (ap (plain_paging (pages_at s.places) (area_in s.areas)) is) ∙ live)
 
   -- what a key of an area shows goes by its block
-  pub shown_by : {a : Area} {i : ℕ} {o : Option ℕ} → k ≡ Shared a i → area_block (area_in s.areas a.0) i ≡ o → shared_page s.file_pages.items o (page_of_area (area_in s.areas a.0) i) ≡ contents_in s k
-  shown_by {a} {i} is e = sym (ap (contents_in s) is ∙ ap (λ b. shared_page s.file_pages.items b (page_of_area (area_in s.areas a.0) i)) e)
+  pub shown_by : {a : Area} {i : ℕ} {o : Option ℕ} → k ≡ Shared a i → area_block (area_in s.areas a.0) i ≡ o → page_of_area_key s.file_pages.items o (page_of_area (area_in s.areas a.0) i) ≡ contents_in s k
+  shown_by {a} {i} is e = sym (ap (contents_in s) is ∙ ap (λ b. page_of_area_key s.file_pages.items b (page_of_area (area_in s.areas a.0) i)) e)
 
   -- the page of a private key, and of a key of a page-file section, is another one
   pub at_place : {late : Place → Option Page} {p : Pid} {v : Vpn} {new : Option Page} → late ≡ changed same_place (pages_at s.places) (record { pid = p; vpn = v }) new → k ≡ Private p v → Becomes (pages_at s.places) late (area_in s.areas) (area_in s.areas) s.file_pages.items k new
@@ -78,13 +77,13 @@ module _ {F : Type 0} {d : DeviceGhosts F} (s : Unpaged F d) {k : Key} where
   pub in_area : {after : ℕ → Option AreaPages} {a : Area} {i : ℕ} {new : Option Page} → i < length (area_pages (area_in s.areas a.0)) → after ≡ changed ◌==◌ (area_in s.areas) a.0 (Some (Paged (slice_set (area_pages (area_in s.areas a.0)) i new))) → k ≡ Shared a i → Becomes (pages_at s.places) (pages_at s.places) (area_in s.areas) after s.file_pages.items k new
   in_area near is key = page_in_area (area_in s.areas) _ _ _ _ near is (pages_at s.places) s.file_pages.items k key
 
-module _ (files : List FilePage) (o : Option AreaPages) (dead : (j : ℕ) → shared_page files (area_block o j) (page_of_area o j) ≡ None) where
+module _ (files : List FilePage) (o : Option AreaPages) (dead : (j : ℕ) → page_of_area_key files (area_block o j) (page_of_area o j) ≡ None) where
   dead_block : ((j block : ℕ) → area_block o j ≡ Some block → block < length files) → (j : ℕ) → area_block o j ≡ None
   dead_block near j = go (area_block o j) refl
     where
       go : (x : Option ℕ) → area_block o j ≡ x → area_block o j ≡ None
       go None e = e
-      go (Some k) e = absurd (page_there files k (near j k e) (sym (ap (λ b. shared_page files b (page_of_area o j)) e) ∙ dead j))
+      go (Some k) e = absurd (page_there files k (near j k e) (sym (ap (λ b. page_of_area_key files b (page_of_area o j)) e) ∙ dead j))
 
   pub dead_count : count_of o ≡ 0
   dead_count = all (area_pages o) (λ j. dead_page files o j (dead j))
@@ -108,7 +107,7 @@ opened_or_not (Ok x) places areas after files a n new ok err = opened places are
 opened_or_not (Err e) places areas after files a n new ok err =
     subst (λ f. Kept places areas f files) (sym err) (record { contents = refl; paging = refl; block = λ b j. refl; blocks = refl })
 
-pub closed : (places : Place → Option Page) (areas after : ℕ → Option AreaPages) (files : List FilePage) (a : ℕ) → ((j : ℕ) → shared_page files (area_block (areas a) j) (page_of_area (areas a) j) ≡ None) → ((j block : ℕ) → area_block (areas a) j ≡ Some block → block < length files) → after ≡ changed ◌==◌ areas a None → Kept places areas after files
+pub closed : (places : Place → Option Page) (areas after : ℕ → Option AreaPages) (files : List FilePage) (a : ℕ) → ((j : ℕ) → page_of_area_key files (area_block (areas a) j) (page_of_area (areas a) j) ≡ None) → ((j block : ℕ) → area_block (areas a) j ≡ Some block → block < length files) → after ≡ changed ◌==◌ areas a None → Kept places areas after files
 closed places areas after files a dead near is =
     areas_kept areas after a None is places files (λ j. sym (dead_block files (areas a) dead near j)) (λ j. sym (dead_page files (areas a) j (dead j)))
 
@@ -126,7 +125,7 @@ get_behind (x ∷ xs) ys i =
     ap (λ (k : ℕ). slice_get (x ∷ (xs ++ ys)) k) e ∙ get_behind xs ys i
 
 pub record FileOpened (places : Place → Option Page) (areas after : ℕ → Option AreaPages) (a first n byte : ℕ) (files all : List FilePage) : Type 0 where
-  pub contents : contents_of places after all ≡ with_file a n byte (contents_of places areas files)
+  pub contents : unpaged_contents places after all ≡ with_file a n byte (unpaged_contents places areas files)
   pub paging : plain_paging places after ≡ plain_paging places areas
   pub sizes : sizes_of after ≡ changed ◌==◌ (sizes_of areas) a (Some n)
   pub blocks : blocks_of after ≡ with_blocks a n first (blocks_of areas)
@@ -152,22 +151,22 @@ module _ (areas mid after : ℕ → Option AreaPages) (a first n byte : ℕ) (fi
   made_at : (j : ℕ) → j < n → slice_get (files ++ made) (first + j) ≡ Some (made_page ((byte + j) % 256))
   made_at j h = ap (λ (k : ℕ). slice_get (files ++ made) (k + j)) next ∙ get_behind files made j ∙ filed.each j h
 
-  contents_with_file : (places : Place → Option Page) → ((b j block : ℕ) → area_block (areas b) j ≡ Some block → block < length files) → contents_of places after all ≡ with_file a n byte (contents_of places areas files)
-  contents_with_file places near = ap (λ f. contents_of places f all) is ∙ ap (λ fs. contents_of places (changed ◌==◌ areas a (Some (Filed first n))) fs) whole ∙ (λ t. λ (q : Key). (at q) t)
+  contents_with_file : (places : Place → Option Page) → ((b j block : ℕ) → area_block (areas b) j ≡ Some block → block < length files) → unpaged_contents places after all ≡ with_file a n byte (unpaged_contents places areas files)
+  contents_with_file places near = ap (λ f. unpaged_contents places f all) is ∙ ap (λ fs. unpaged_contents places (changed ◌==◌ areas a (Some (Filed first n))) fs) whole ∙ (λ t. λ (q : Key). (at q) t)
     where
-      old : (b j : ℕ) (o : Option ℕ) → area_block (areas b) j ≡ o → shared_page (files ++ made) o (page_of_area (areas b) j) ≡ shared_page files o (page_of_area (areas b) j)
+      old : (b j : ℕ) (o : Option ℕ) → area_block (areas b) j ≡ o → page_of_area_key (files ++ made) o (page_of_area (areas b) j) ≡ page_of_area_key files o (page_of_area (areas b) j)
       old b j None e = refl
-      old b j (Some k) e = ap page_of (get_before files made k (near b j k e))
+      old b j (Some k) e = ap page_of_block (get_before files made k (near b j k e))
 
-      here : (b j : ℕ) (t : Bool) → areas b ≡ None → nat_lt j n ≡ t → shared_page (files ++ made) (if t then Some (first + j) else None) None ≡ (if t then Some (filled ((byte + j) % 256)) else shared_page files (area_block (areas b) j) (page_of_area (areas b) j))
-      here b j true gone h = ap page_of (made_at j (ltb-true j n h))
-      here b j false gone h = ap (λ o. shared_page files (area_block o j) (page_of_area o j)) (sym gone)
+      here : (b j : ℕ) (t : Bool) → areas b ≡ None → nat_lt j n ≡ t → page_of_area_key (files ++ made) (if t then Some (first + j) else None) None ≡ (if t then Some (filled ((byte + j) % 256)) else page_of_area_key files (area_block (areas b) j) (page_of_area (areas b) j))
+      here b j true gone h = ap page_of_block (made_at j (ltb-true j n h))
+      here b j false gone h = ap (λ o. page_of_area_key files (area_block o j) (page_of_area o j)) (sym gone)
 
-      split : (b j : ℕ) (t : Bool) → (b == a) ≡ t → shared_page (files ++ made) (area_block (if t then Some (Filed first n) else areas b) j) (page_of_area (if t then Some (Filed first n) else areas b) j) ≡ (if t && nat_lt j n then Some (filled ((byte + j) % 256)) else shared_page files (area_block (areas b) j) (page_of_area (areas b) j))
+      split : (b j : ℕ) (t : Bool) → (b == a) ≡ t → page_of_area_key (files ++ made) (area_block (if t then Some (Filed first n) else areas b) j) (page_of_area (if t then Some (Filed first n) else areas b) j) ≡ (if t && nat_lt j n then Some (filled ((byte + j) % 256)) else page_of_area_key files (area_block (areas b) j) (page_of_area (areas b) j))
       split b j true e = here b j (nat_lt j n) (ap areas (eqb-true b a e) ∙ closed_before) refl
       split b j false e = old b j (area_block (areas b) j) refl
 
-      at : (q : Key) → contents_of places (changed ◌==◌ areas a (Some (Filed first n))) (files ++ made) q ≡ with_file a n byte (contents_of places areas files) q
+      at : (q : Key) → unpaged_contents places (changed ◌==◌ areas a (Some (Filed first n))) (files ++ made) q ≡ with_file a n byte (unpaged_contents places areas files) q
       at (Private p v) = refl
       at (Shared b j) = split b.0 j (b.0 == a) refl
 
@@ -243,26 +242,26 @@ module _ (areas mid after : ℕ → Option AreaPages) (a first n byte : ℕ) (fi
 
 -- ---- a page settled
 
-settled_page : (fs : List FilePage) (b k : ℕ) → page_of (slice_get (slice_set fs b (record { page = page_in fs b; changed = false })) k) ≡ page_of (slice_get fs k)
+settled_page : (fs : List FilePage) (b k : ℕ) → page_of_block (slice_get (slice_set fs b (record { page = page_in fs b; changed = false })) k) ≡ page_of_block (slice_get fs k)
 settled_page [] b k = refl
 settled_page (f ∷ fs) zero zero = refl
 settled_page (f ∷ fs) zero (suc k) = refl
 settled_page (f ∷ fs) (suc b) zero = refl
 settled_page (f ∷ fs) (suc b) (suc k) = settled_page fs b k
 
-pub contents_settled : (places : Place → Option Page) (areas : ℕ → Option AreaPages) (files after : List FilePage) (b : ℕ) → after ≡ slice_set files b (record { page = page_in files b; changed = false }) → contents_of places areas after ≡ contents_of places areas files
-contents_settled places areas files after b is = ap (contents_of places areas) is ∙ (λ t. λ (q : Key). (at q) t)
+pub contents_settled : (places : Place → Option Page) (areas : ℕ → Option AreaPages) (files after : List FilePage) (b : ℕ) → after ≡ slice_set files b (record { page = page_in files b; changed = false }) → unpaged_contents places areas after ≡ unpaged_contents places areas files
+contents_settled places areas files after b is = ap (unpaged_contents places areas) is ∙ (λ t. λ (q : Key). (at q) t)
   where
-    here : (o : Option ℕ) (p : Option Page) → shared_page (slice_set files b (record { page = page_in files b; changed = false })) o p ≡ shared_page files o p
+    here : (o : Option ℕ) (p : Option Page) → page_of_area_key (slice_set files b (record { page = page_in files b; changed = false })) o p ≡ page_of_area_key files o p
     here None p = refl
     here (Some k) p = settled_page files b k
 
-    at : (q : Key) → contents_of places areas (slice_set files b (record { page = page_in files b; changed = false })) q ≡ contents_of places areas files q
+    at : (q : Key) → unpaged_contents places areas (slice_set files b (record { page = page_in files b; changed = false })) q ≡ unpaged_contents places areas files q
     at (Private p v) = refl
     at (Shared a j) = here (area_block (areas a.0) j) (page_of_area (areas a.0) j)
 
 -- the page that stands at a block
-pub page_got : (fs : List FilePage) (b : ℕ) (here : FilePage) → b < length fs → here ≡ slice_index_or fs b here → page_of (slice_get fs b) ≡ Some here.page
+pub page_got : (fs : List FilePage) (b : ℕ) (here : FilePage) → b < length fs → here ≡ slice_index_or fs b here → page_of_block (slice_get fs b) ≡ Some here.page
 page_got [] b here h e = absurd (omega arith)
 page_got (f ∷ fs) zero here h e = ap (λ (x : FilePage). Some x.page) (sym e)
 page_got (f ∷ fs) (suc b) here h e = page_got fs b here (omega arith) e
@@ -275,15 +274,15 @@ file_written fs b off bytes here new near read is = ap (λ w. slice_set fs b w) 
 
 -- ---- nothing yet
 
-pub contents_new : (places : Place → Option Page) (areas : ℕ → Option AreaPages) (files : List FilePage) (k : Key) → places ≡ no_page → areas ≡ no_area → contents_of places areas files k ≡ None
+pub contents_new : (places : Place → Option Page) (areas : ℕ → Option AreaPages) (files : List FilePage) (k : Key) → places ≡ no_page → areas ≡ no_areas → unpaged_contents places areas files k ≡ None
 contents_new places areas files (Private p v) none closed = ap (λ f. f (record { pid = p; vpn = v })) none
-contents_new places areas files (Shared a i) none closed = ap (λ f. shared_page files (area_block (f a.0) i) (page_of_area (f a.0) i)) closed
+contents_new places areas files (Shared a i) none closed = ap (λ f. page_of_area_key files (area_block (f a.0) i) (page_of_area (f a.0) i)) closed
 
-pub paging_new : (places : Place → Option Page) (areas : ℕ → Option AreaPages) (k : Key) → places ≡ no_page → areas ≡ no_area → plain_paging places areas k ≡ false
+pub paging_new : (places : Place → Option Page) (areas : ℕ → Option AreaPages) (k : Key) → places ≡ no_page → areas ≡ no_areas → plain_paging places areas k ≡ false
 paging_new places areas (Private p v) none closed = ap (λ f. is_some (f (record { pid = p; vpn = v }))) none
 paging_new places areas (Shared a i) none closed = ap (λ f. is_some (page_of_area (f a.0) i)) closed
 
-pub blocks_new : (areas : ℕ → Option AreaPages) (k : Key) → areas ≡ no_area → blocks_of areas k ≡ None
+pub blocks_new : (areas : ℕ → Option AreaPages) (k : Key) → areas ≡ no_areas → blocks_of areas k ≡ None
 blocks_new areas (Private p v) closed = refl
 blocks_new areas (Shared a i) closed = ap (λ f. area_block (f a.0) i) closed
 

@@ -42,5 +42,5 @@ count_of area = sum_by one_if_live (area_pages area)
 abbrev pub count_in : Areas → ℕ
 count_in areas = sum_by count_of areas.areas.items
 
-abbrev pub no_area : ℕ → Option AreaPages
-no_area _ = None
+abbrev pub no_areas : ℕ → Option AreaPages
+no_areas _ = None

@@ -17,16 +17,16 @@ pub record IsMade (pages : List FilePage) (n byte : ℕ) : Type 0 where
   pub each : (i : ℕ) → i < n → slice_get pages i ≡ Some (made_page ((byte + i) % 256))
 
 -- the page of a block
-abbrev pub page_of : Option FilePage → Option Page
-page_of None = None
-page_of (Some page) = Some page.page
+abbrev pub page_of_block : Option FilePage → Option Page
+page_of_block None = None
+page_of_block (Some page) = Some page.page
 
 abbrev pub page_in : List FilePage → ℕ → Page
-page_in pages block = unwrap_or (page_of (slice_get pages block)) (filled 0)
+page_in pages block = unwrap_or (page_of_block (slice_get pages block)) (filled 0)
 
 -- a device as it stands
-abbrev pub seen : {F : Type 0} → Ghosts F → F → DeviceOf
-seen d f = device_with (d.log f) (d.named f) (d.faults f)
+abbrev pub unpaged_device : {F : Type 0} → Ghosts F → F → DeviceOf
+unpaged_device d f = device_with (d.log f) (d.named f) (d.faults f)
 
 -- some writes of a device, one after another, and its tally with them
 pub record WroteDevice (old new : DeviceOf) (before after : Tally) : Type 0 where

@@ -7,7 +7,7 @@ use Rattle.mm_unpaged.specs.declared.areas.Areas.{Areas}
 use Rattle.mm_unpaged.specs.declared.files.FilePage.{FilePage}
 use Rattle.mm_unpaged.specs.declared.places.Places.{Places}
 use Rattle.mm_unpaged.specs.Areas.{area_block, count_in}
-use Rattle.mm_unpaged.specs.Places.{bound_in, pages_in}
+use Rattle.mm_unpaged.specs.Places.{is_bound_in, pages_in}
 use Rattle.mm_unpaged.specs.Stocks.{StockOf}
 
 -- the places, the page-file areas and the boxes
@@ -15,7 +15,7 @@ pub record Fits (places : Places) (areas : Areas) (stock : StockOf) : Type 0 whe
   -- each box has a page-file page or is spare
   pub boxes : (pages_in places + count_in areas) + stock.boxes ≡ stock.room
   -- user pages alone are bound
-  pub low : (place : Place) → bound_in places place ≡ true → place.vpn.0 < end_of_user_pages
+  pub low : (place : Place) → is_bound_in places place ≡ true → place.vpn.0 < end_of_user_pages
 
 -- the files, their pages in memory, and the blocks of the device
 pub record FilesFit (areas : ℕ → Option AreaPages) (pages : List FilePage) (blocks : List Page)

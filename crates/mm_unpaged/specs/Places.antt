@@ -14,22 +14,22 @@ place_eq = (place_equality.ghosts).eq
 abbrev pub found_in : Places → Place → Option BoundPlace
 found_in places place = get place_eq places.map place
 
-abbrev pub named_by : Option BoundPlace → Option Key
-named_by None = None
-named_by (Some place) = place.named
+abbrev pub named_key : Option BoundPlace → Option Key
+named_key None = None
+named_key (Some place) = place.named
 
-abbrev pub page_of : Option BoundPlace → Option Page
-page_of None = None
-page_of (Some place) = place.page
+abbrev pub page_in_place : Option BoundPlace → Option Page
+page_in_place None = None
+page_in_place (Some place) = place.page
 
-abbrev pub bound_in : Places → Place → Bool
-bound_in places place = is_some (found_in places place)
+abbrev pub is_bound_in : Places → Place → Bool
+is_bound_in places place = is_some (found_in places place)
 
 abbrev pub names_in : Places → Place → Option Key
-names_in places place = named_by (found_in places place)
+names_in places place = named_key (found_in places place)
 
 abbrev pub pages_at : Places → Place → Option Page
-pages_at places place = page_of (found_in places place)
+pages_at places place = page_in_place (found_in places place)
 
 -- how many pages there are
 abbrev pub page_count : BoundPlace → ℕ
@@ -39,8 +39,8 @@ abbrev pub pages_in : Places → ℕ
 pages_in places = sum_by page_count (values places.map)
 
 -- this many pages, from one on
-abbrev pub pages_from : ℕ → ℕ → Range
-pages_from first count = record { first = first; count = count }
+abbrev pub range_from : ℕ → ℕ → Range
+range_from first count = record { first = first; count = count }
 
 abbrev pub no_place : Place → Bool
 no_place _ = false

@@ -10,19 +10,19 @@ use Rattle.mm_unpaged.specs.declared.unpaged.Wanted.{Wanted}
 use Rattle.mm_unpaged.specs.declared.areas.AreaPages.{AreaPages}
 use Rattle.mm_unpaged.specs.declared.files.FilePage.{FilePage}
 use Rattle.mm_unpaged.specs.Areas.{size_of, page_of_area, area_block}
-use Rattle.mm_unpaged.specs.Files.{page_of}
+use Rattle.mm_unpaged.specs.Files.{page_of_block}
 
 -- the page of a file stands by its block, any other page of an area with the area
-abbrev pub shared_page : List FilePage → Option ℕ → Option Page → Option Page
-shared_page files None page = page
-shared_page files (Some block) page = page_of (slice_get files block)
+abbrev pub page_of_area_key : List FilePage → Option ℕ → Option Page → Option Page
+page_of_area_key files None page = page
+page_of_area_key files (Some block) page = page_of_block (slice_get files block)
 
 -- the page of a private key stands at its own place
-abbrev pub contents_of : (Place → Option Page) → (ℕ → Option AreaPages) → List FilePage → Key →
+abbrev pub unpaged_contents : (Place → Option Page) → (ℕ → Option AreaPages) → List FilePage → Key →
     Option Page
-contents_of places areas files (key.Private pid vpn) = places (record { pid = pid; vpn = vpn })
-contents_of places areas files (key.Shared area index) =
-    shared_page files (area_block (areas area.0) index) (page_of_area (areas area.0) index)
+unpaged_contents places areas files (key.Private pid vpn) = places (record { pid = pid; vpn = vpn })
+unpaged_contents places areas files (key.Shared area index) =
+    page_of_area_key files (area_block (areas area.0) index) (page_of_area (areas area.0) index)
 
 -- the live keys that no file has
 abbrev pub plain_paging : (Place → Option Page) → (ℕ → Option AreaPages) → Key → Bool
@@ -40,8 +40,8 @@ abbrev pub ready_at : Option Wanted → Option Ready
 ready_at None = None
 ready_at (Some w) = Some (record { place = w.place; need = need_for w.need w.key w.place })
 
-abbrev pub no_counts : Counts
-no_counts = record {
+abbrev pub zero_counts : Counts
+zero_counts = record {
   zeroed = 0;
   free = 0;
   standby = 0;
@@ -65,7 +65,7 @@ unpaged_report writes contents = record {
   file_writes = writes;
   last_failed_read = None;
   search_writes = writes;
-  counts = no_counts;
+  counts = zero_counts;
   whereabouts = whereabouts_of contents;
   wait = λ _. wait.None;
   extended = None;

@@ -7,23 +7,23 @@ use Rattle.mm_devices.specs.{no_device, device_with}
 use Rattle.mm_store.specs.{StoreOf}
 use Rattle.mm_unpaged.specs.declared.unpaged.Unpaged.{Unpaged}
 use Rattle.mm_unpaged.specs.Areas.{area_in, count_in}
-use Rattle.mm_unpaged.specs.Places.{bound_in, names_in, pages_at, pages_in}
-use Rattle.mm_unpaged.specs.Shown.{contents_of, plain_paging, blocks_of, sizes_of, ready_at, unpaged_report}
+use Rattle.mm_unpaged.specs.Places.{is_bound_in, names_in, pages_at, pages_in}
+use Rattle.mm_unpaged.specs.Shown.{unpaged_contents, plain_paging, blocks_of, sizes_of, ready_at, unpaged_report}
 
 -- which processes are open, by pid
-abbrev pub is_open_in : List Bool → ℕ → Bool
-is_open_in processes pid = slice_index_or processes pid false
+abbrev pub is_process_open : List Bool → ℕ → Bool
+is_process_open processes pid = slice_index_or processes pid false
 
 module _ {F : Type 0} {d : DeviceGhosts F} where
   abbrev pub contents_in : Unpaged F d → Key → Option Page
-  contents_in s = contents_of (pages_at s.places) (area_in s.areas) s.file_pages.items
+  contents_in s = unpaged_contents (pages_at s.places) (area_in s.areas) s.file_pages.items
 
   abbrev pub store_in : Unpaged F d → StoreOf
   store_in s = record {
     machine = s.machine;
-    is_open = is_open_in s.processes;
+    is_open = is_process_open s.processes;
     areas = sizes_of (area_in s.areas);
-    bound = bound_in s.places;
+    bound = is_bound_in s.places;
     names = names_in s.places;
     paging = plain_paging (pages_at s.places) (area_in s.areas);
     paging_keys = pages_in s.places + count_in s.areas;

@@ -81,11 +81,11 @@ fn write_page(area: &mut Option<AreaPages>, index: u32, off: u16, bytes: &[u8])
 }
 
 impl Areas {
-    ghost use Rattle.mm_unpaged.specs.Areas.{area_in, no_area, size_of, count_of, count_in, one_if_live};
+    ghost use Rattle.mm_unpaged.specs.Areas.{area_in, no_areas, size_of, count_of, count_in, one_if_live};
 
     /// No area is open.
     pub(crate) fn new(alloc: Global) -> Areas
-        ensures areas { area_in result ≡ no_area }
+        ensures areas { area_in result ≡ no_areas }
         ensures count { count_in result ≡ 0 }
     {
         Areas {

@@ -3,7 +3,7 @@ ghost use Rattle.mm_types.specs.declared.devices.Direction.TheVariants as way;
 ghost use Rattle.mm_devices.specs.{is_named, Serves, CallFailed};
 ghost use Rattle.mm_world.specs.{filled, written};
 ghost use Rattle.mm_store.specs.{with_outcome, no_calls};
-ghost use Rattle.mm_unpaged.specs.Files.{IsMade, Stored, WroteDevice, seen};
+ghost use Rattle.mm_unpaged.specs.Files.{IsMade, Stored, WroteDevice, unpaged_device};
 
 use crate::boxes::PageBox;
 use mm_devices::Inject;
@@ -102,10 +102,10 @@ pub(crate) fn write_block<F: Inject>(
       block = block;
       succeeded = is_ok result;
       named = is_named way.Write (F.named device.old);
-    }) (seen F.Inject device.old) (seen F.Inject device.new) }
+    }) (unpaged_device F.Inject device.old) (unpaged_device F.Inject device.new) }
     ensures writes { writes.new ≡ with_outcome (is_ok result) writes.old }
     ensures blamed { OnErr result
-        (CallFailed (seen F.Inject device.old) (seen F.Inject device.new)) }
+        (CallFailed (unpaged_device F.Inject device.old) (unpaged_device F.Inject device.new)) }
     ensures loans { F.loans device.new ≡ F.loans device.old }
 {
     let done = device.write(block, page.bytes());
@@ -130,12 +130,13 @@ pub(crate) fn write_file<F: Inject>(
     ensures long { length (F.blocks device.new) ≡ length (F.blocks device.old) }
     ensures others { (block : ℕ) → (block < first) ⊎ (first + n ≤ block) →
         slice_get (F.blocks device.new) block ≡ slice_get (F.blocks device.old) block }
-    ensures wrote { WroteDevice (seen F.Inject device.old) (seen F.Inject device.new) writes.old
+    ensures wrote { WroteDevice (unpaged_device F.Inject device.old)
+        (unpaged_device F.Inject device.new) writes.old
         writes.new }
     ensures quiet { OnOk result (writes.new.failed ≡ writes.old.failed) }
     ensures failed { OnErr result (0 < writes.new.failed) }
     ensures blamed { OnErr result
-        (CallFailed (seen F.Inject device.old) (seen F.Inject device.new)) }
+        (CallFailed (unpaged_device F.Inject device.old) (unpaged_device F.Inject device.new)) }
     ensures loans { F.loans device.new ≡ F.loans device.old }
 {
     for i in 0..n {

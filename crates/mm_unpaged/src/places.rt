@@ -23,11 +23,11 @@ pub(crate) struct Places {
 }
 
 impl Places {
-    ghost use Rattle.mm_unpaged.specs.Places.{bound_in, names_in, pages_at, pages_in, no_place, no_name, no_page, pages_from};
+    ghost use Rattle.mm_unpaged.specs.Places.{is_bound_in, names_in, pages_at, pages_in, no_place, no_name, no_page, range_from};
 
     /// No place is bound.
     pub(crate) fn new(alloc: Global) -> Places
-        ensures bound { bound_in result ≡ no_place }
+        ensures bound { is_bound_in result ≡ no_place }
         ensures names { names_in result ≡ no_name }
         ensures pages { pages_at result ≡ no_page }
         ensures count { pages_in result ≡ 0 }
@@ -40,7 +40,7 @@ impl Places {
     /// Sees that so many places more can be bound.
     pub(crate) fn reserve(&mut self, more: u32) -> Result<(), NoMemory>
         ensures ok { OnOk result (more ≤ spare self.new.map) }
-        ensures bound { bound_in self.new ≡ bound_in self.old }
+        ensures bound { is_bound_in self.new ≡ is_bound_in self.old }
         ensures names { names_in self.new ≡ names_in self.old }
         ensures pages { pages_at self.new ≡ pages_at self.old }
         ensures count { pages_in self.new ≡ pages_in self.old }
@@ -51,9 +51,10 @@ impl Places {
 
     /// Binds a place; it names nothing.
     pub(crate) fn bind(&mut self, place: Place)
-        requires unbound { bound_in self.old place ≡ false }
+        requires unbound { is_bound_in self.old place ≡ false }
         requires room { 0 < spare self.old.map }
-        ensures bound { bound_in self.new ≡ changed same_place (bound_in self.old) place true }
+        ensures bound { is_bound_in self.new
+            ≡ changed same_place (is_bound_in self.old) place true }
         ensures names { names_in self.new ≡ changed same_place (names_in self.old) place None }
         ensures pages { pages_at self.new ≡ pages_at self.old }
         ensures count { pages_in self.new ≡ pages_in self.old }
@@ -71,7 +72,8 @@ impl Places {
     /// Gives up a place without a page.
     pub(crate) fn unbind(&mut self, place: Place)
         requires dead { pages_at self.old place ≡ None }
-        ensures bound { bound_in self.new ≡ changed same_place (bound_in self.old) place false }
+        ensures bound { is_bound_in self.new
+            ≡ changed same_place (is_bound_in self.old) place false }
         ensures names { names_in self.new ≡ changed same_place (names_in self.old) place None }
         ensures pages { pages_at self.new ≡ pages_at self.old }
         ensures count { pages_in self.new ≡ pages_in self.old }
@@ -84,13 +86,14 @@ impl Places {
     #[tactic(auto, using(crate::proofs::BoundPlaces::paging))]
     pub(crate) fn bind_all(&mut self, pid: Pid, first: Vpn, n: u32) -> Result<(), NoMemory>
         requires inside { first.0 + n ≤ 2 ^ 32 }
-        requires unbound { (page : ℕ) → holds_page (pages_from first.0 n) page ≡ true →
-            bound_in self.old (place_at pid page) ≡ false }
+        requires unbound { (page : ℕ) → holds_page (range_from first.0 n) page ≡ true →
+            is_bound_in self.old (place_at pid page) ≡ false }
         ensures bound { OnOk result
-            (bound_in self.new ≡ changed_in pid (pages_from first.0 n) (bound_in self.old) true) }
+            (is_bound_in self.new
+            ≡ changed_in pid (range_from first.0 n) (is_bound_in self.old) true) }
         ensures names { OnOk result
-            (names_in self.new ≡ changed_in pid (pages_from first.0 n) (names_in self.old) None) }
-        ensures still_bound { OnErr result (bound_in self.new ≡ bound_in self.old) }
+            (names_in self.new ≡ changed_in pid (range_from first.0 n) (names_in self.old) None) }
+        ensures still_bound { OnErr result (is_bound_in self.new ≡ is_bound_in self.old) }
         ensures same_names { OnErr result (names_in self.new ≡ names_in self.old) }
         ensures pages { pages_at self.new ≡ pages_at self.old }
         ensures count { pages_in self.new ≡ pages_in self.old }
@@ -111,10 +114,10 @@ impl Places {
         requires inside { first.0 + n ≤ 2 ^ 32 }
         requires dead { (page : ℕ) → first.0 ≤ page → page < first.0 + n →
             pages_at self.old (place_at pid page) ≡ None }
-        ensures bound { bound_in self.new
-            ≡ changed_in pid (pages_from first.0 n) (bound_in self.old) false }
+        ensures bound { is_bound_in self.new
+            ≡ changed_in pid (range_from first.0 n) (is_bound_in self.old) false }
         ensures names { names_in self.new
-            ≡ changed_in pid (pages_from first.0 n) (names_in self.old) None }
+            ≡ changed_in pid (range_from first.0 n) (names_in self.old) None }
         ensures pages { pages_at self.new ≡ pages_at self.old }
         ensures count { pages_in self.new ≡ pages_in self.old }
     {
@@ -128,8 +131,8 @@ impl Places {
 
     /// A bound place names this key from now on.
     pub(crate) fn name(&mut self, place: Place, key: Key)
-        requires { bound_in self.old place ≡ true }
-        ensures bound { bound_in self.new ≡ bound_in self.old }
+        requires { is_bound_in self.old place ≡ true }
+        ensures bound { is_bound_in self.new ≡ is_bound_in self.old }
         ensures names { names_in self.new
             ≡ changed same_place (names_in self.old) place (Some key) }
         ensures pages { pages_at self.new ≡ pages_at self.old }
@@ -143,9 +146,9 @@ impl Places {
 
     /// A page comes to stand at a bound place that has none.
     pub(crate) fn put(&mut self, place: Place, page: PageBox)
-        requires bound { bound_in self.old place ≡ true }
+        requires bound { is_bound_in self.old place ≡ true }
         requires empty { pages_at self.old place ≡ None }
-        ensures bound { bound_in self.new ≡ bound_in self.old }
+        ensures bound { is_bound_in self.new ≡ is_bound_in self.old }
         ensures names { names_in self.new ≡ names_in self.old }
         ensures pages { pages_at self.new
             ≡ changed same_place (pages_at self.old) place (Some page) }
@@ -160,7 +163,7 @@ impl Places {
     /// Takes the page of a place, which then names nothing.
     pub(crate) fn take(&mut self, place: Place) -> PageBox
         requires { IsSome (pages_at self.old place) }
-        ensures bound { bound_in self.new ≡ bound_in self.old }
+        ensures bound { is_bound_in self.new ≡ is_bound_in self.old }
         ensures names { names_in self.new ≡ changed same_place (names_in self.old) place None }
         ensures pages { pages_at self.new ≡ changed same_place (pages_at self.old) place None }
         ensures count { pages_in self.new + 1 ≡ pages_in self.old }
@@ -193,7 +196,7 @@ impl Places {
     pub(crate) fn write(&mut self, place: Place, off: u16, bytes: &[u8])
         requires live { IsSome (pages_at self.old place) }
         requires inside { off + length bytes.now ≤ 4096 }
-        ensures bound { bound_in self.new ≡ bound_in self.old }
+        ensures bound { is_bound_in self.new ≡ is_bound_in self.old }
         ensures names { names_in self.new ≡ names_in self.old }
         ensures pages { pages_at self.new ≡ changed same_place (pages_at self.old) place
             (Some (written (unwrap_or (pages_at self.old place) (filled 0)) off bytes.now)) }

@@ -7,7 +7,7 @@ ghost use Rattle.mm_unpaged.specs.Areas.{area_in, area_block, count_in};
 ghost use Rattle.mm_unpaged.specs.Files.{IsMade};
 ghost use Rattle.mm_unpaged.specs.Fitting.{Fits, FilesFit};
 ghost use Rattle.mm_unpaged.specs.Places.{pages_at};
-ghost use Rattle.mm_unpaged.specs.Shown.{contents_of};
+ghost use Rattle.mm_unpaged.specs.Shown.{unpaged_contents};
 
 use crate::areas::{AreaPages, Areas};
 use crate::boxes::{PageBox, Stock};
@@ -62,9 +62,9 @@ fn page_of<'a>(places: &'a Places, areas: &'a Areas, files: &'a FilePages, key: 
         area_block (area_in areas.now area) index ≡ Some block →
         block < length files.now.items }
     requires few { length files.now.items < 2 ^ 32 }
-    requires live { IsSome (contents_of (pages_at places.now) (area_in areas.now)
+    requires live { IsSome (unpaged_contents (pages_at places.now) (area_in areas.now)
         files.now.items key) }
-    ensures { contents_of (pages_at places.now) (area_in areas.now) files.now.items key
+    ensures { unpaged_contents (pages_at places.now) (area_in areas.now) files.now.items key
         ≡ Some result.now }
 {
     match key {

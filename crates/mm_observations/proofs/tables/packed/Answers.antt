@@ -1,6 +1,6 @@
 use Rattle.std.proofs.Common.{◌+◌, Ok, Err, sym, ◌∙◌, subst, arith}
 use Rattle.mm_types.specs.{Text}
-use Rattle.mm_observations.specs.{Refuses}
+use Rattle.mm_observations.specs.{RefusesFile}
 use Rattle.mm_observations.specs.Packs.{Packs}
 use Rattle.mm_observations.proofs.{file_longer, file_more, file_refused, from_same}
 use Rattle.mm_observations.proofs.tables.packed.Goals as goal
@@ -13,7 +13,7 @@ returns-in-Err c =
     let bytes = c.args.bytes.now in
     let fault = c.in-Err.fault in
     let packs : Packs run l.packing l.number c.without_return.result.now (Err fault) c.take.new.self = subst (λ r. Packs run l.packing l.number c.without_return.result.now r c.take.new.self) c.in-Err.is c.take.ensures in
-    subst (λ r. Refuses r fault) (sym l.invariant.packed)
+    subst (λ r. RefusesFile r fault) (sym l.invariant.packed)
     (file_refused run bytes l.start l.i l.number l.packing l.invariant.order c.loop-i-test.true c.take.new.self fault c.if-bytes-i-eq10.true
     (subst (λ (t : Text). Packs run l.packing l.number t (Err fault) c.take.new.self) c.without_return.ensures.body packs))
 

@@ -24,7 +24,7 @@ loop-event-preserved g c =
     let d = c.in-Ok.ensures in
     record {
       handled = handled_on (Running (scene c.args.world.now)) (Running (scene l.world)) (Running (scene c.decide.new.world)) c.args.events.now l.event-index l.ok l.none c.one_if-ok.result c.one_if-none.result c.event-item.result c.decide.new.answer (omega arith) c.event-item.is i.handled d.came d.ready.noted
-          (c.one_if-ok.ensures.value ∙ ap (λ b. cond b 1 0) c.begins_ok.ensures) (c.one_if-none.ensures.value ∙ ap (λ b. cond b 1 0) c.is_none.ensures);
+          (c.one_if-ok.ensures.value ∙ ap (λ b. cond b 1 0) c.begins_ok.ensures) (c.one_if-none.ensures.value ∙ ap (λ b. cond b 1 0) c.is_no_answer.ensures);
       next = omega (arith, i.next);
       ok_few = omega (arith, i.ok_few, c.one_if-ok.ensures.most);
       none_few = omega (arith, i.none_few, c.one_if-none.ensures.most);

@@ -3,7 +3,7 @@ use Rattle.mm_types.specs.{IsMachine}
 use Rattle.mm_types.specs.declared.events.Event.TheVariants as line
 use Rattle.mm_dispatch.specs.{world, world_behind, scene}
 use Rattle.mm_pager.specs.Store as paged
-use Rattle.mm_run.specs.{AccountsMoves, BatchRan, MachineIsMade, NotBegun, Outset, Running, Starts, left_behind}
+use Rattle.mm_run.specs.{AccountsMoves, BatchRan, MachineIsMade, NotBegun, Outset, Running, StartsFrom, left_behind}
 use Rattle.mm_run.proofs.{is_new, is_made, log_left_at}
 use Rattle.mm_parts.proofs.{first_legal}
 use Rattle.mm_run.proofs.bulk.decide_over.Goals as goal
@@ -18,7 +18,7 @@ pub new-world-requires : goal.new-world-requires
 new-world-requires g c = record { new = is_new c.args.machine _ _ c.requires.starts.starts _ _ c.over.ensures.contents c.over.ensures.store }
 
 -- the world over it is the machine's
-made : (g : given.Over) (c : After-finish-2 g) (o : Outset) → Starts c.args.machine o (g.T.StateCalls.shown c.args.state) → MachineIsMade c.args.machine o (scene c.new-world.result)
+made : (g : given.Over) (c : After-finish-2 g) (o : Outset) → StartsFrom c.args.machine o (g.T.StateCalls.shown c.args.state) → MachineIsMade c.args.machine o (scene c.new-world.result)
 made g c o h =
     let m = c.args.machine in
     let whole : IsMachine m = search rules in

@@ -2,7 +2,7 @@ use Rattle.std.proofs.Common.{ℕ, ◌≡◌, ◌≤◌, ◌<◌, refl, sym, ap,
 use Rattle.mm_types.specs.declared.events.Event.TheVariants as line
 use Rattle.mm_state.specs.{shown_state}
 use Rattle.mm_run.specs.declared.endings.Ending.TheVariants as ending
-use Rattle.mm_run.specs.{Comes, IsBlamed, IsStill, NotBegun, Starts, fault_counts_with, left_seen, outset, outside_seen, stand}
+use Rattle.mm_run.specs.{Comes, IsBlamed, IsStill, NotBegun, StartsFrom, fault_counts_with, left_seen, outset, outside_seen, stand}
 use Rattle.mm_run.proofs.{lent, starts_over, three_names, comes_here, follows_here, grows_here, came_memory}
 use Rattle.mm_run.proofs.machines.run_machine.Goals as goal
 use Rattle.mm_run.proofs.machines.run_machine.Goals.{In-Ok, After-moves-2-1}
@@ -10,7 +10,7 @@ use Rattle.mm_run.proofs.machines.run_machine.Given as given
 
 -- the state over the devices is one with which a run starts
 starts : (g : given.Over) (c : In-Ok g) (p f : ℕ) → p ≤ g.P.BlockDevice.faults c.args.paging.now → f ≤ g.F.BlockDevice.faults c.args.files.now
-    → Starts c.args.machine (outset p f (g.M.Sink.taken c.args.moves.now) (g.M.Sink.given c.args.moves.now) (g.M.Sink.faults c.args.moves.now)) (shown_state c.in-Ok.state)
+    → StartsFrom c.args.machine (outset p f (g.M.Sink.taken c.args.moves.now) (g.M.Sink.given c.args.moves.now) (g.M.Sink.faults c.args.moves.now)) (shown_state c.in-Ok.state)
 starts g c = starts_over g.P.BlockDevice g.F.BlockDevice g.M.Sink c.args.machine _ c.requires.opened c.new.ensures.device c.new-2.ensures.device c.new-3.ensures.sink c.new.ensures.named c.new-2.ensures.named c.new-3.ensures.fresh c.in-Ok.ensures.starts
 
 -- the point at which it is made, from the end

@@ -2,7 +2,7 @@ use Rattle.std.proofs.Common.{◌≡◌, ◌⊎◌, ◌+◌, ◌∙◌, Some, tr
 use Rattle.std.specs.Prelude.{map, string_bytes}
 use Rattle.mm_types.specs.{Text}
 use Rattle.mm_show.proofs.{Shown, shown_exactly}
-use Rattle.mm_show.specs.{Form, files_of, has_script, has_answers, has_observations, FileIs, FileHas, IsUnread, LacksFile, files_at, word_at}
+use Rattle.mm_show.specs.{Form, files_of, has_script, has_answers, has_observations, FileIs, FileHas, IsUnread, LacksFile, files_at, asked_word}
 use Rattle.mm_show.proofs.top.run_show.Goals as goal
 
 pub returns-in-Ok-Some-clause-exact : goal.returns-in-Ok-Some-clause-exact
@@ -28,7 +28,7 @@ pub returns-in-Ok-Some-clause-no_script : goal.returns-in-Ok-Some-clause-no_scri
 returns-in-Ok-Some-clause-no_script g c = λ f asks has none.
     let found : Some c.in-Ok-Some.form ≡ Some f = sym c.in-Ok-Some.field-0-is ∙ (c.in-Ok-Some.ensures ∙ asks) in
     let same : c.in-Ok-Some.form ≡ f = cc in
-    subst (λ (x : Form). IsUnread (word_at (map string_bytes c.args.words.now) (files_at x)) (g.O.Sink.taken c.args.out.now) (g.O.Sink.taken c.show_form.new.out) c.show_form.result) same
+    subst (λ (x : Form). IsUnread (asked_word (map string_bytes c.args.words.now) (files_at x)) (g.O.Sink.taken c.args.out.now) (g.O.Sink.taken c.show_form.new.out) c.show_form.result) same
     (c.show_form.ensures.no_script (subst (λ (x : Form). has_script (files_of x) ≡ true) (sym same) has) none)
 
 pub returns-in-Ok-Some-clause-no_answers : goal.returns-in-Ok-Some-clause-no_answers

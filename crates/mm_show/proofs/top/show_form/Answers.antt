@@ -1,7 +1,7 @@
 use Rattle.std.proofs.Common.{◌≡◌, ◌+◌, Bool, List, Option, ℕ, sym, ap, ◌∙◌, subst, option_map, inl, inr}
 use Rattle.std.specs.Prelude.{map, string_bytes}
 use Rattle.mm_types.specs.{Text}
-use Rattle.mm_show.specs.{files_of, has_script, has_answers, form_said, form_sought, form_why, FileIs, IsUnread, whole_page, files_at, word_at}
+use Rattle.mm_show.specs.{files_of, has_script, has_answers, form_said, form_sought, form_why, FileIs, IsUnread, whole_page, files_at, asked_word}
 use Rattle.mm_show.proofs.{file_lines, Shown}
 use Rattle.mm_show.proofs.top.show_form.Goals as goal
 
@@ -24,42 +24,42 @@ returns-clause-exact g c = λ s t o fs ft fo.
 
 pub returns-in-Err-Failed-clause-no_script : goal.returns-in-Err-Failed-clause-no_script
 returns-in-Err-Failed-clause-no_script g c = λ has none.
-    let name : Text = word_at (map string_bytes c.args.words.now) (files_at c.args.form) in
-    let same : c.word_at.result.now ≡ name = c.word_at.ensures ∙ ap (λ (k : ℕ). word_at (map string_bytes c.args.words.now) k) c.files_at.ensures in
+    let name : Text = asked_word (map string_bytes c.args.words.now) (files_at c.args.form) in
+    let same : c.asked_word.result.now ≡ name = c.asked_word.ensures ∙ ap (λ (k : ℕ). asked_word (map string_bytes c.args.words.now) k) c.files_at.ensures in
     subst (λ (name : Text). IsUnread name (g.O.Sink.taken c.args.out.now) (g.O.Sink.taken c.unread.new.out) c.unread.result) same c.unread.ensures.says
 
 pub returns-in-Err-Failed-clause-exact : goal.returns-in-Err-Failed-clause-exact
 returns-in-Err-Failed-clause-exact g c = λ s t o fs ft fo.
     let words = map string_bytes c.args.words.now in
-    let same : c.word_at.result.now ≡ word_at words (files_at c.args.form) = c.word_at.ensures ∙ ap (λ (k : ℕ). word_at words k) c.files_at.ensures in
+    let same : c.asked_word.result.now ≡ asked_word words (files_at c.args.form) = c.asked_word.ensures ∙ ap (λ (k : ℕ). asked_word words k) c.files_at.ensures in
     inr (inl (subst (λ (name : Text). IsUnread name (g.O.Sink.taken c.args.out.now) (g.O.Sink.taken c.unread.new.out) c.unread.result) same c.unread.ensures.says))
 
 pub returns-in-Err-Failed-clause-no_answers : goal.returns-in-Err-Failed-clause-no_answers
 returns-in-Err-Failed-clause-no_answers g c = λ s fs has none.
     let words = map string_bytes c.args.words.now in
-    let same : c.word_at.result.now ≡ word_at words (files_at c.args.form) = c.word_at.ensures ∙ ap (λ (k : ℕ). word_at words k) c.files_at.ensures in
+    let same : c.asked_word.result.now ≡ asked_word words (files_at c.args.form) = c.asked_word.ensures ∙ ap (λ (k : ℕ). asked_word words k) c.files_at.ensures in
     inl (subst (λ (name : Text). IsUnread name (g.O.Sink.taken c.args.out.now) (g.O.Sink.taken c.unread.new.out) c.unread.result) same c.unread.ensures.says)
 
 pub returns-in-Err-Failed-clause-no_observations : goal.returns-in-Err-Failed-clause-no_observations
 returns-in-Err-Failed-clause-no_observations g c = λ has none.
     let words = map string_bytes c.args.words.now in
-    let same : c.word_at.result.now ≡ word_at words (files_at c.args.form) = c.word_at.ensures ∙ ap (λ (k : ℕ). word_at words k) c.files_at.ensures in
+    let same : c.asked_word.result.now ≡ asked_word words (files_at c.args.form) = c.asked_word.ensures ∙ ap (λ (k : ℕ). asked_word words k) c.files_at.ensures in
     inl (subst (λ (name : Text). IsUnread name (g.O.Sink.taken c.args.out.now) (g.O.Sink.taken c.unread.new.out) c.unread.result) same c.unread.ensures.says)
 
 pub returns-in-Err-Failed-named_lines-clause-exact : goal.returns-in-Err-Failed-named_lines-clause-exact
 returns-in-Err-Failed-named_lines-clause-exact g c = λ s t o fs ft fo.
     let words = map string_bytes c.args.words.now in
-    let same : c.word_at-in-Err-Failed-named_lines.result.now ≡ word_at words (files_at c.args.form + 1) = c.word_at-in-Err-Failed-named_lines.ensures ∙ ap (λ (k : ℕ). word_at words (k + 1)) c.files_at-in-Err-Failed-named_lines.ensures in
+    let same : c.asked_word-in-Err-Failed-named_lines.result.now ≡ asked_word words (files_at c.args.form + 1) = c.asked_word-in-Err-Failed-named_lines.ensures ∙ ap (λ (k : ℕ). asked_word words (k + 1)) c.files_at-in-Err-Failed-named_lines.ensures in
     inr (inr (inl (subst (λ (name : Text). IsUnread name (g.O.Sink.taken c.args.out.now) (g.O.Sink.taken c.unread-in-Err-Failed-named_lines.new.out) c.unread-in-Err-Failed-named_lines.result) same c.unread-in-Err-Failed-named_lines.ensures.says)))
 
 pub returns-in-Err-Failed-named_lines-clause-no_answers : goal.returns-in-Err-Failed-named_lines-clause-no_answers
 returns-in-Err-Failed-named_lines-clause-no_answers g c = λ s fs has none.
     let words = map string_bytes c.args.words.now in
-    let same : c.word_at-in-Err-Failed-named_lines.result.now ≡ word_at words (files_at c.args.form + 1) = c.word_at-in-Err-Failed-named_lines.ensures ∙ ap (λ (k : ℕ). word_at words (k + 1)) c.files_at-in-Err-Failed-named_lines.ensures in
+    let same : c.asked_word-in-Err-Failed-named_lines.result.now ≡ asked_word words (files_at c.args.form + 1) = c.asked_word-in-Err-Failed-named_lines.ensures ∙ ap (λ (k : ℕ). asked_word words (k + 1)) c.files_at-in-Err-Failed-named_lines.ensures in
     inr (inl (subst (λ (name : Text). IsUnread name (g.O.Sink.taken c.args.out.now) (g.O.Sink.taken c.unread-in-Err-Failed-named_lines.new.out) c.unread-in-Err-Failed-named_lines.result) same c.unread-in-Err-Failed-named_lines.ensures.says))
 
 pub returns-in-Err-Failed-named_lines-clause-no_observations : goal.returns-in-Err-Failed-named_lines-clause-no_observations
 returns-in-Err-Failed-named_lines-clause-no_observations g c = λ has none.
     let words = map string_bytes c.args.words.now in
-    let same : c.word_at-in-Err-Failed-named_lines.result.now ≡ word_at words (files_at c.args.form + 1) = c.word_at-in-Err-Failed-named_lines.ensures ∙ ap (λ (k : ℕ). word_at words (k + 1)) c.files_at-in-Err-Failed-named_lines.ensures in
+    let same : c.asked_word-in-Err-Failed-named_lines.result.now ≡ asked_word words (files_at c.args.form + 1) = c.asked_word-in-Err-Failed-named_lines.ensures ∙ ap (λ (k : ℕ). asked_word words (k + 1)) c.files_at-in-Err-Failed-named_lines.ensures in
     inr (inl (subst (λ (name : Text). IsUnread name (g.O.Sink.taken c.args.out.now) (g.O.Sink.taken c.unread-in-Err-Failed-named_lines.new.out) c.unread-in-Err-Failed-named_lines.result) same c.unread-in-Err-Failed-named_lines.ensures.says))
