@@ -386,9 +386,8 @@ def drawn(hands: Hands) -> None:
     for paint in ("state", "owner", "changed"):
         hands.set("paint", paint)
         hands.has(f"legend by {paint}", hands.js(legend), "Underlined: changed")
-        hands.has(
-            f"legend by {paint}", hands.js(legend), "being read" if paint == "state" else "Hatched"
-        )
+        held = "being written" if paint == "state" else "Hatched"
+        hands.has(f"legend by {paint}", hands.js(legend), held)
     hands.has(
         "legend by owner",
         (hands.set("paint", "owner"), hands.js(legend))[1],
@@ -405,6 +404,28 @@ def drawn(hands: Hands) -> None:
     hands.js(LATER)
     part = hands.js("(page.charts.axis.right - page.charts.axis.left) / innerWidth")
     hands.note("charts on a phone", part > 0.9, True)
+    hands.browser.resize(1500, 1400)
+
+
+def only_what_is_drawn(hands: Hands) -> None:
+    """The legend in each colouring; on a phone the table of addresses has the width."""
+    with open("examples/first.mm", encoding="ascii") as file:
+        log, files = hands.played(file.read())
+    hands.page(log, files)
+    pages = "Addresses:Not touched: demand-zeroIn memory: soft faultValidFrames:"
+    rows = [
+        ("state", "FreeModifiedActive"),
+        ("owner", "No pagePrivate to process 1"),
+        ("changed", "No pageChanged"),
+    ]
+    for paint, wanted in rows:
+        hands.set("paint", paint)
+        legend = hands.js("document.getElementById('legend').textContent")
+        hands.note(f"the legend by {paint}", legend, f"{pages}{wanted}Underlined: changed")
+    hands.browser.resize(390, 1400)
+    hands.js(LATER)
+    wide = "(({scrollWidth, clientWidth}) => scrollWidth - clientWidth)"
+    hands.note("beyond a phone", hands.js(f"{wide}(document.getElementById('spaces'))"), 0)
     hands.browser.resize(1500, 1400)
 
 
@@ -640,6 +661,7 @@ ALONE = [
     early_end,
     find,
     drawn,
+    only_what_is_drawn,
     first_label,
     ages_and_slots,
     idle_frames,

@@ -41,14 +41,19 @@ function makeFrameChart({ data, view }) {
   const note = unused ? NOTE_HEIGHT : 0;
   const paints = makePaints(data.processes);
   let [pen, axis, rows, place] = [null, null, [], { top: 0, high: 0 }];
+  let seen = new Set(); // what is drawn: by its place among the words, or by a word of its own
 
   function legend() {
     const { tints, words } = paints[view.paint];
-    const item = (text, at) =>
-      `<li><i class="${view.paint}-${at}" style="background-color: var(${tints[at]})"></i>${text}`;
-    const hatched = '<li><i class="state-5"></i>Hatched: a request holds it';
-    const last = '<li><i class="underline"></i>Underlined: changed';
-    return words.map(item).join('') + last + (view.paint === 'state' ? '' : hatched);
+    const item = (look, text, style = '') =>
+      `<li><i class="${look}" style="background-color: ${style}"></i>${text}`;
+    const states = words.map((text, at) =>
+      seen.has(at) ? item(`${view.paint}-${at}`, text, `var(${tints[at]})`) : '',
+    );
+    const isHatched = seen.has('hatched') && view.paint !== 'state';
+    if (seen.has('underlined')) states.push(item('underline', 'Underlined: changed'));
+    if (isHatched) states.push(item('state-5', 'Hatched: a request holds it'));
+    return states.join('');
   }
 
   // ---- the rows: all page frames, or those that change in the lines that are seen
@@ -74,6 +79,7 @@ function makeFrameChart({ data, view }) {
     const high = whole - note;
     const row = high / rows.length;
     place = { top, high };
+    seen = new Set();
     if (axis.column >= 1 && row >= 3) {
       rows.forEach((frame, at) => drawRow(frame, top + at * row, row > 6 ? row - 1 : row));
     } else drawAll(top, high);
@@ -123,9 +129,13 @@ function makeFrameChart({ data, view }) {
       const left = axis.x(from);
       const wide = axis.x(to) - left - (axis.column > 6 ? 1 : 0);
       pen.box(tint, left, top, wide, high);
-      if (state >= READING && high > 5) pen.hatch(left, top, wide, high, state === READING);
+      seen.add(of(stands));
+      const isHatched = state >= READING && high > 5;
+      if (isHatched) pen.hatch(left, top, wide, high, state === READING);
+      if (isHatched) seen.add('hatched');
       const isUnderlined = isChanged && state === ACTIVE && high > 8;
       if (isUnderlined) pen.box(inkOn(tint), left, top + high - 3, wide, 2, 0.55);
+      if (isUnderlined) seen.add('underlined');
       if (owner && high >= 12) drawName(stands, tint, left, top, wide, high);
     });
   }
@@ -141,7 +151,7 @@ function makeFrameChart({ data, view }) {
     const { tints, of } = paints[view.paint];
     const tall = clamp(Math.round(high * devicePixelRatio), 1, all.length);
     const edge = (y) => Math.floor((y * all.length) / tall);
-    drawPooled(pen, axis, {
+    seen = drawPooled(pen, axis, {
       ...{ name: 'frames ' + view.paint, tints, top, high, tall },
       rowsAt: (y) => all.slice(edge(y), edge(y + 1)),
       eachStretch: (frame, weigh) =>

@@ -89,6 +89,7 @@ class Pen {
 // eachStretch(row, weigh) calls weigh(tint's number, from, to) for the lines that are seen.
 const MOST_PICTURES = 24;
 const pictures = new Map();
+// Answers which of the tints are in the picture.
 function drawPooled(pen, axis, { name, tints, top, high, tall, rowsAt, eachStretch }) {
   const wide = Math.round((axis.right - axis.left) * devicePixelRatio);
   const id = [name, ...tints.map(colour), axis.first, axis.last, wide, tall].join();
@@ -97,13 +98,16 @@ function drawPooled(pen, axis, { name, tints, top, high, tall, rowsAt, eachStret
     pictures.set(id, pool(axis, tints, wide, tall, rowsAt, eachStretch));
   }
   pen.context.imageSmoothingEnabled = false;
-  pen.context.drawImage(pictures.get(id), axis.left, top, axis.right - axis.left, high);
+  const { canvas, seen } = pictures.get(id);
+  pen.context.drawImage(canvas, axis.left, top, axis.right - axis.left, high);
+  return seen;
 }
 function pool(axis, tints, wide, tall, rowsAt, eachStretch) {
   const colours = tints.map((name) => [...channels(name), 255]);
   const pixels = wide / axis.count;
   const image = new ImageData(wide, tall);
   const weights = tints.map(() => new Float32Array(wide));
+  const seen = new Set();
   // Adds for how long a row has a colour in each pixel.
   function weigh(tint, first, next) {
     const weight = weights[tint];
@@ -117,7 +121,9 @@ function pool(axis, tints, wide, tall, rowsAt, eachStretch) {
     for (let tint = 1; tint < tints.length; tint++) {
       if (weights[tint][at] > weights[best][at]) best = tint;
     }
-    return weights[best][at] ? colours[best] : [0, 0, 0, 0];
+    if (!weights[best][at]) return [0, 0, 0, 0];
+    seen.add(best);
+    return colours[best];
   }
   for (let y = 0; y < tall; y++) {
     for (const weight of weights) weight.fill(0);
@@ -126,5 +132,5 @@ function pool(axis, tints, wide, tall, rowsAt, eachStretch) {
   }
   const canvas = new OffscreenCanvas(wide, tall);
   canvas.getContext('2d').putImageData(image, 0, 0);
-  return canvas;
+  return { canvas, seen };
 }

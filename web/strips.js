@@ -32,9 +32,10 @@ const PAGE_PAINTS = {
   },
 };
 
-function makeStripChart({ view, space: { spaces, isObserved }, sections, pages, shown }) {
+function makeStripChart({ view, space: { spaces }, sections, pages, shown }) {
   const nameAt = (pid, base, line) => nameOfUse(sections.useOf(pid, base, line));
   let [pen, axis, strips] = [null, null, []];
+  let seen = new Set(); // what is drawn: by its place among the words, or by a word of its own
 
   // ---- the rows of a process: {from, to, top, high, isFirst}, from the top on
   // How a page's row is folded: not, as nothing but reserved, or as never touched.
@@ -77,8 +78,9 @@ function makeStripChart({ view, space: { spaces, isObserved }, sections, pages, 
     return { gap, unit: unit || Math.max(0.02, (budget - gap * gaps) / units) };
   }
   // The strips of the processes that do most, or of the one that was chosen, with their heights.
-  function layOut(seen) {
-    axis = seen;
+  function layOut(given) {
+    axis = given;
+    seen = new Set();
     const pids = shown();
     strips = pids.flatMap((pid) => {
       const space = spaces[pid];
@@ -129,6 +131,7 @@ function makeStripChart({ view, space: { spaces, isObserved }, sections, pages, 
     pages.eachStretch(space, page, axis, (code, from, to) => {
       const found = pages.decode(code);
       const tint = tints[of(found)];
+      seen.add(of(found));
       const last = stretches.at(-1);
       const isAlike = last?.to === from && last.tint === tint && last.stand === found.stand;
       if (isAlike && last.isCopied === found.isCopied) last.to = to;
@@ -145,7 +148,9 @@ function makeStripChart({ view, space: { spaces, isObserved }, sections, pages, 
       pen.box(tint, left, top, box.wide, high);
       if (kind === IS_RESERVED && high > 4) dotted(box, 1 / 2, '--soft', [1, 4]);
       if (stand.protection & GUARD) pen.hatch(left, top, box.wide, high, true, '--guard');
+      if (stand.protection & GUARD) seen.add('guard');
       if (isCopied) pen.box(inkOn(tint), left, top + high - 2, box.wide, 2, 0.75);
+      if (isCopied) seen.add('copied');
       if (row.to - row.from > 1 && kind !== IS_RESERVED) {
         for (const part of [1 / 3, 2 / 3]) dotted(box, part, '--back', DOTTED);
       }
@@ -194,13 +199,14 @@ function makeStripChart({ view, space: { spaces, isObserved }, sections, pages, 
       const step = Math.ceil(here.length / MOST_SAMPLES);
       return here.filter((_, at) => at % step === 0);
     }
-    drawPooled(pen, axis, {
+    const drawn = drawPooled(pen, axis, {
       ...{ name: `${space.pid} ${view.tint}`, tints, top, high, tall, rowsAt },
       eachStretch: ({ from: page }, weigh) =>
         pages.eachStretch(space, page, axis, (code, from, to) =>
           weigh(of(pages.decode(code)), from, to),
         ),
     });
+    drawn.forEach((at) => seen.add(at));
   }
 
   // The process and page whose row is at a height of all charts, if one is.
@@ -225,12 +231,10 @@ function makeStripChart({ view, space: { spaces, isObserved }, sections, pages, 
     if (!strips.length) return '';
     const { tints, words } = PAGE_PAINTS[view.tint];
     const item = (text, at) =>
-      text && (isObserved || at > 1)
-        ? `<li><i style="background: var(${tints[at]})"></i>${text}`
-        : '';
-    const guard = '<li><i class="guard"></i>Guard page';
-    const copied = '<li><i class="underline"></i>\u25c6 Copied page';
-    return words.map(item).join('') + (isObserved ? guard + copied : '');
+      text && seen.has(at) ? `<li><i style="background: var(${tints[at]})"></i>${text}` : '';
+    const guard = seen.has('guard') ? '<li><i class="guard"></i>Guard page' : '';
+    const copied = seen.has('copied') ? '<li><i class="underline"></i>\u25c6 Copied page' : '';
+    return words.map(item).join('') + guard + copied;
   }
   return { layOut, draw, pageAt, mark, legend, titleOf: ({ pid }) => `Process ${pid}` };
 }

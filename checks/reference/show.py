@@ -373,14 +373,14 @@ def fits_end(answers, count):
 
 def moves_of(data):
     """The moves of the log's bytes, numbered lines; BadLog where a line is no spelling."""
-    lines = data.split(b"\n")
-    if lines.pop():
-        raise BadLog(len(lines) + 1)
+    *lines, rest = data.split(b"\n")
     for n, line in enumerate(lines, 1):
         m = read_move(line)
         if m is None:
             raise BadLog(n)
         yield m
+    if rest:
+        raise BadLog(len(lines) + 1)
 
 
 def spelled(data):

@@ -4,7 +4,9 @@ use Rattle.std.proofs.lemmas.List.{length-take, length-drop, get_or-take, get_or
 use Rattle.std.specs.Prelude.{IsSomeAnd, IfSome, option_map, unwrap_or}
 use Rattle.mm_types.specs.{address_of, page_of, Range, holds_page, lies_within, first_user_page}
 use Rattle.mm_types.proofs.{parts, some_found}
-use Rattle.mm_vad.specs.{NoneSet, IsNextSet, bit_flag, LieAmong, Region}
+use Rattle.mm_bits.specs.{IsLowestFrom, NoneWithin}
+use Rattle.mm_bits.proofs.{none_before}
+use Rattle.mm_vad.specs.{bit_flag, LieAmong, Region}
 use Rattle.mm_vad.specs.Regions as vad
 use Rattle.mm_world.proofs.{page_of-address_of, found_stands, flags_changed, inside, Inside, length-change_range, space_set, length-unwritten}
 use Rattle.mm_world.specs.{written_from, RegionOf, pages_of, Found, region_with, change_range, change_flags, mark_written, written_in, unwritten}
@@ -43,24 +45,24 @@ module _ (written : List Bool) (base at end : ℕ) (within : end ≤ length writ
   length-piece : length (take (end - at) (drop at written)) ≡ end - at
   length-piece = omega (arith, length-take (end - at) (drop at written), length-drop at written)
 
-  pub none_between : NoneSet (bit_flag written) at end → written_between written base at end ≡ []
+  pub none_between : NoneWithin (bit_flag written) at end → written_between written base at end ≡ []
   none_between none = no_page (base + at) (take (end - at) (drop at written)) (λ i h. piece_at i (omega (arith, length-piece)) ∙ none.inside (at + i) (omega arith) (omega (arith, length-piece)))
 
-  pub next_between : (i : ℕ) → IsNextSet (bit_flag written) at end i → written_between written base at end ≡ (base + i) ∷ written_between written base (i + 1) end
-  next_between i next =
+  pub next_between : (i : ℕ) → i < end → IsLowestFrom (bit_flag written) at i → written_between written base at end ≡ (base + i) ∷ written_between written base (i + 1) end
+  next_between i within_end next =
       let k = i - at in
-      let there : at + k ≡ i = omega (arith, next.from) in
-      let fewer : end - at ≡ suc k + (end - (i + 1)) = omega (arith, next.from, next.within) in
-      let later : at + suc k ≡ i + 1 = omega (arith, next.from) in
-      let place : base + at + k ≡ base + i = omega (arith, next.from) in
-      let place' : base + at + k + 1 ≡ base + (i + 1) = omega (arith, next.from) in
+      let there : at + k ≡ i = omega (arith, next.low) in
+      let fewer : end - at ≡ suc k + (end - (i + 1)) = omega (arith, next.low, within_end) in
+      let later : at + suc k ≡ i + 1 = omega (arith, next.low) in
+      let place : base + at + k ≡ base + i = omega (arith, next.low) in
+      let place' : base + at + k + 1 ≡ base + (i + 1) = omega (arith, next.low) in
       let behind : drop (suc k) (take (end - at) (drop at written)) ≡ take (end - (i + 1)) (drop (i + 1) written) =
       ap (λ (n : ℕ). drop (suc k) (take n (drop at written))) fewer
       ∙ drop-take (suc k) (end - (i + 1)) (drop at written)
       ∙ ap (take (end - (i + 1))) (drop-drop (suc k) at written ∙ ap (λ (n : ℕ). drop n written) later) in
-      first_page (base + at) (take (end - at) (drop at written)) k (omega (arith, length-piece, next.from, next.within))
-      (piece_at k (omega (arith, next.from, next.within)) ∙ ap (bit_flag written) there ∙ next.is_set)
-      (λ j h. piece_at j (omega (arith, next.from, next.within)) ∙ next.before.inside (at + j) (omega arith) (omega arith))
+      first_page (base + at) (take (end - at) (drop at written)) k (omega (arith, length-piece, next.low, within_end))
+      (piece_at k (omega (arith, next.low, within_end)) ∙ ap (bit_flag written) there ∙ next.held)
+      (λ j h. piece_at j (omega (arith, next.low, within_end)) ∙ (none_before (bit_flag written) at i next).inside (at + j) (omega arith) (omega arith))
       ∙ ap (λ (p : ℕ). p ∷ written_from (base + at + k + 1) (drop (suc k) (take (end - at) (drop at written)))) place
       ∙ ap (λ (p : ℕ). (base + i) ∷ written_from p (drop (suc k) (take (end - at) (drop at written)))) place'
       ∙ ap (λ (bits : List Bool). (base + i) ∷ written_from (base + (i + 1)) bits) behind

@@ -19,7 +19,7 @@ use Rattle.mm_world.specs.{every_page, every_page_from, change_range, change_row
 use Rattle.mm_world.specs.{protections_of, accepts, protected, IsSpace, PrivateRowFits, ViewRowFits, RowFits, pages_of, first_where}
 use Rattle.mm_world.proofs.{map-replicate, found_stands, length-change_range, within, every_page-at, reserved_fits, commit_fits, rows_change}
 use Rattle.mm_world.proofs.{view_rows_protected, flags_stay, space_set}
-use Rattle.mm_address_spaces.specs.{shown_row, region_of, rows_in_range, rows_of, IsAround, RowChange, shown_regions, changed_row, RunChanged, IsInRegion}
+use Rattle.mm_address_spaces.specs.{shown_row, region_of, rows_in_range, rows_of_range, IsAround, RowChange, shown_regions, changed_row, RunChanged, IsInRegion}
 use Rattle.mm_address_spaces.specs.{owns, CanChange, IsKeptSpace, owned_in, RowsChanged, CanChangeRows}
 use Rattle.mm_address_spaces.proofs.Around.{is_around, Here, here, with_around, around_set, rising_shown}
 use Rattle.mm_address_spaces.proofs.Kept.{found_has}
@@ -65,7 +65,7 @@ every_is_all p r first (suc count) low high =
 pub every_row : (p : Test) (rs : List (RegionOf (Unit {0}))) (range : Range) (r : Found (RegionOf (Unit {0}))) → region_around rs range ≡ Some r → every_page (at_page p r.thing) range ≡ list_all p (rows_in_range rs range)
 every_row p rs range r e =
     let i = is_around rs range r e in
-    every_is_all p r.thing range.first range.count i.low i.high ∙ ap (λ o. list_all p (rows_of range o)) (sym e)
+    every_is_all p r.thing range.first range.count i.low i.high ∙ ap (λ o. list_all p (rows_of_range range o)) (sym e)
 
 -- in a private region a page is committed where it has bytes of its own
 pub owned_is_committed : (w : WorldOf (Unit {0})) (r : RegionOf (Unit {0})) (page : ℕ) → is_private r.kind ≡ true → is_committed_at w r page ≡ at_page (λ row. is_some row.own) r page
@@ -123,7 +123,7 @@ length_in_range : (rs : List (RegionOf (Unit {0}))) (range : Range) → is_some 
 length_in_range rs range some =
     let r = some_found (region_around rs range) some in
     let i = is_around rs range r.0 r.1 in
-    ap (λ o. length (rows_of range o)) r.1
+    ap (λ o. length (rows_of_range range o)) r.1
     ∙ length-take-le range.count (drop (range.first - r.0.thing.base) r.0.thing.rows) (omega (arith, length-drop (range.first - r.0.thing.base) r.0.thing.rows, i.low, i.high))
 
 -- the rows of a range that lies in one region
@@ -412,7 +412,7 @@ can_protect rs range r prot e takes all page row low high at =
       sym (ap (λ o. unwrap_or (option_map (λ (row : RowOf (Unit {0})). is_one_of (protections_of r.thing.kind row) (base_of prot)) o) false) at) ∙ here,
       λ private.
           all_at r.thing.rows (range.first - r.thing.base) range.count (page - r.thing.base) row
-          (ap (λ o. list_all owns (rows_of range o)) (sym e) ∙ all private)
+          (ap (λ o. list_all owns (rows_of_range range o)) (sym e) ∙ all private)
           (omega (arith, low, i.low)) (omega (arith, low, high, i.low)) at,
     )
 

@@ -8,7 +8,7 @@ pub mod ViewStates
 pub mod Asked
 pub mod PageInfos
 pub use Shown.{new_flags, new_view_row, region_of, shown_regions, shown_row}
-pub use Tables.{RegionsOf, found_info, info_of, marked_in, owned_in, rows_in_range, rows_of}
+pub use Tables.{RegionsOf, found_info, info_of, marked_in, owned_in, rows_in_range, rows_of_range}
 pub use Tables.{told_page_row, told_row, unmarked_in}
 pub use Finds.{IsKeptSpace, IsWholeRegion}
 pub use Kept.{IsAround, IsBased, IsRegionAt, NoneAround, NoneBased, both_where, found_if, is_based}

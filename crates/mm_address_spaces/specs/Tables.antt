@@ -36,13 +36,13 @@ told_page_row regions page =
     (region_with regions page)
 
 module _ {B : Type 0} where
-  abbrev pub rows_of : Range → Option (Found (RegionOf B)) → List (RowOf B)
-  rows_of range None = []
-  rows_of range (Some r) = take range.count (drop (range.first - r.thing.base) r.thing.rows)
+  abbrev pub rows_of_range : Range → Option (Found (RegionOf B)) → List (RowOf B)
+  rows_of_range range None = []
+  rows_of_range range (Some r) = take range.count (drop (range.first - r.thing.base) r.thing.rows)
 
   -- the rows of a range that lies in one region
   abbrev pub rows_in_range : List (RegionOf B) → Range → List (RowOf B)
-  rows_in_range regions range = rows_of range (region_around regions range)
+  rows_in_range regions range = rows_of_range range (region_around regions range)
 
   -- how many of them have bytes of their own, have no mark, have one
   abbrev pub owned_in : List (RegionOf B) → Range → ℕ

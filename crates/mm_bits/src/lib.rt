@@ -1,6 +1,8 @@
-//! Rows of bits in words of 64, changed a range at a time.
+//! Rows of bits in words of 64, and sets of numbers made of them.
 #![tactic(auto)]
 
 mod bits;
+mod sets;
 
-pub use bits::put_bits;
+pub use bits::{extend, next_bit, put_bit, put_bits, reach};
+pub use sets::BitSet;

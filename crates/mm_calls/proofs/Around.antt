@@ -15,7 +15,7 @@ use Rattle.mm_world.specs.WellFormed.{WellFormed}
 use Rattle.mm_world.proofs.{same_place, is_placed, found_stands, and-true, laid_at, inside, holds_first, Inside, lies, each-at, charge-set_region}
 use Rattle.mm_world.proofs.{sum_by-put}
 use Rattle.mm_sections.specs.{number_of_block, uncommitted_in}
-use Rattle.mm_address_spaces.specs.{RegionInfo, found_info, owned_in, rows_of, unmarked_in}
+use Rattle.mm_address_spaces.specs.{RegionInfo, found_info, owned_in, rows_of_range, unmarked_in}
 use Rattle.mm_object_tables.specs.{newly_marked, new_marks}
 use Rattle.mm_object_tables.proofs.{one_if, count-change_range, count-all, length-range, allowed, one_or_other, protect_count}
 use Rattle.mm_object_tables.proofs.Lists.{counted}
@@ -46,7 +46,7 @@ module _ {B : Type 0} where
       record {
         at = stands.there;
         inside = inside range (pages_of r.thing) stands.passes;
-        owned = ap (λ o. count_by has_own (rows_of range o)) e;
+        owned = ap (λ o. count_by has_own (rows_of_range range o)) e;
       }
 
   by_test : (test : RegionOf B → Bool) (r : RegionOf B) (b : Bool) (o : Option (Found (RegionOf B))) → is_some o ≡ true → is_some (cond b (Some (record { place = 0; thing = r })) (option_map one_later o)) ≡ true

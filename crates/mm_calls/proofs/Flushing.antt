@@ -20,7 +20,7 @@ use Rattle.mm_store.specs.Flushing.{Flushing}
 use Rattle.mm_store.proofs.Passed as passed
 use Rattle.mm_object_tables.proofs.{one_if, fits_wrote}
 use Rattle.mm_object_tables.specs.{FitsTables, IsTidy}
-use Rattle.mm_calls.specs.{keys_from, keys_of_region, flushed_keys, AnswersFlush, FlushesBlocks, AreHeld, InBlocks}
+use Rattle.mm_calls.specs.{keys_from, keys_of_region, keys_of_flush, AnswersFlush, FlushesBlocks, AreHeld, InBlocks}
 use Rattle.mm_calls.proofs.Around.{mapped}
 
 keys_mapped : (area vfirst base first n : ℕ) → base ≤ first → map (λ page. shared_key area (vfirst + (page - base))) (numbers_from first n) ≡ keys_from area (vfirst + (first - base)) n
@@ -42,7 +42,7 @@ pub flushed_count_is : (r : RegionOf (Unit {0})) (addr size before first count m
 flushed_count_is r addr size before first count meant base rows is low range = count_is (size == 0) r addr size before first count meant base rows is low range
 
 -- the keys of the region that is found
-pub flushed_are : (t : Tables) (pid : ℕ) (p : ProcessOf (Unit {0})) (addr size : ℕ) (r : Found (RegionOf (Unit {0}))) (v : View) (before count : ℕ) → process_of t pid ≡ Some p → flushed_view p.regions addr size ≡ Some r → r.thing.kind ≡ kind.View v → r.thing.base ≤ page_of addr → before ≡ page_of addr - r.thing.base → count ≡ (flushed_range r.thing addr size).count → cond (is_some (area_at t v.area.0).file_block) (keys_from v.area.0 (v.first + before) count) [] ≡ flushed_keys t pid addr size
+pub flushed_are : (t : Tables) (pid : ℕ) (p : ProcessOf (Unit {0})) (addr size : ℕ) (r : Found (RegionOf (Unit {0}))) (v : View) (before count : ℕ) → process_of t pid ≡ Some p → flushed_view p.regions addr size ≡ Some r → r.thing.kind ≡ kind.View v → r.thing.base ≤ page_of addr → before ≡ page_of addr - r.thing.base → count ≡ (flushed_range r.thing addr size).count → cond (is_some (area_at t v.area.0).file_block) (keys_from v.area.0 (v.first + before) count) [] ≡ keys_of_flush t pid addr size
 flushed_are t pid p addr size r v before count lives found is low begins counts =
     let range = flushed_range r.thing addr size in
     let first : range.first ≡ page_of addr = first_is (size == 0) r.thing addr size in
@@ -58,14 +58,14 @@ flushed_are t pid p addr size r v before count lives found is low begins counts 
     )
 
 -- where there is no process, or no such view, there are none
-pub no_process : (t : Tables) (pid addr size : ℕ) → is_some (process_of t pid) ≡ false → [] ≡ flushed_keys t pid addr size
+pub no_process : (t : Tables) (pid addr size : ℕ) → is_some (process_of t pid) ≡ false → [] ≡ keys_of_flush t pid addr size
 no_process t pid addr size none = by_process (process_of t pid) none
   where
     by_process : (o : Option (ProcessOf (Unit {0}))) → is_some o ≡ false → [] ≡ unwrap_or (option_and_then (λ (p : ProcessOf (Unit {0})). option_map (λ (r : Found (RegionOf (Unit {0}))). keys_of_region t addr size r.thing.kind r.thing) (flushed_view p.regions addr size)) o) []
     by_process None none = refl
     by_process (Some p) none = cc
 
-pub no_view : (t : Tables) (pid : ℕ) (p : ProcessOf (Unit {0})) (addr size : ℕ) → process_of t pid ≡ Some p → flushed_view p.regions addr size ≡ None → [] ≡ flushed_keys t pid addr size
+pub no_view : (t : Tables) (pid : ℕ) (p : ProcessOf (Unit {0})) (addr size : ℕ) → process_of t pid ≡ Some p → flushed_view p.regions addr size ≡ None → [] ≡ keys_of_flush t pid addr size
 no_view t pid p addr size lives none =
     sym (
     ap (λ (o : Option (ProcessOf (Unit {0}))). unwrap_or (option_and_then (λ (p : ProcessOf (Unit {0})). option_map (λ (r : Found (RegionOf (Unit {0}))). keys_of_region t addr size r.thing.kind r.thing) (flushed_view p.regions addr size)) o) []) lives

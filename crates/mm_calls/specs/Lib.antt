@@ -17,7 +17,7 @@ pub use Allocating.{allocates_anew}
 pub use Growing.{GrowsBy}
 pub use Marking.{marks_anew, protect_pages}
 pub use Watching.{after_watch}
-pub use Stages.{AreHeld, InBlocks, NewFileMade, are_viewed, flushed_keys, freed_pages, keys_from}
+pub use Stages.{AreHeld, InBlocks, NewFileMade, are_viewed, keys_of_flush, freed_pages, keys_from}
 pub use Stages.{keys_of_region, make_section, map_section, place_view}
 pub use Regions.{IsReserved, IsUncommitted, reserved_region}
 pub use Growth.{NothingLeft, Overflows, ProbeIn, StackGrows, StackStandsIn, grows, growths}

@@ -82,8 +82,8 @@ abbrev pub keys_of_region : Tables → ℕ → ℕ → Kind → RegionOf (Unit {
 keys_of_region t addr size kind.Private r = []
 keys_of_region t addr size (kind.View v) r = file_keys t v r.base (flushed_range r addr size)
 
-abbrev pub flushed_keys : Tables → ℕ → ℕ → ℕ → List Key
-flushed_keys t pid addr size =
+abbrev pub keys_of_flush : Tables → ℕ → ℕ → ℕ → List Key
+keys_of_flush t pid addr size =
     unwrap_or
     (option_and_then
     (λ p. option_map (λ r. keys_of_region t addr size r.thing.kind r.thing)

@@ -5,7 +5,7 @@ ghost use Rattle.mm_types.specs.{range_of};
 ghost use Rattle.mm_world.specs.{area_at, blank, is_success, new_file};
 ghost use Rattle.mm_store.specs.{Turns, Makes, Flushes, PassesIn, NotesIn};
 ghost use Rattle.mm_object_tables.specs.{IsFew, BlocksHold, flush_told, file_block_in};
-ghost use Rattle.mm_calls.specs.{AreHeld, InBlocks, keys_from, flushed_keys, BeginsWrites, ChangesNothing, AnswersFile, AnswersFlush, FlushesBlocks};
+ghost use Rattle.mm_calls.specs.{AreHeld, InBlocks, keys_from, keys_of_flush, BeginsWrites, ChangesNothing, AnswersFile, AnswersFlush, FlushesBlocks};
 ghost use Rattle.mm_calls.specs.{HoldsPages, FailsWrite};
 
 use crate::views::view_of;
@@ -71,7 +71,7 @@ pub fn flush_view<G: PageStore>(t: &Tables, g: &mut G, pid: Pid, addr: u32, size
     ensures done { AnswersFlush G.PageStore t.now result g.old g.new }
     ensures holds { result ≡ answer.Ok →
         BlocksHold t.now (G.contents g.new) (G.store g.new).file_blocks pid.0 addr size }
-    ensures passes { PassesIn G.unpaged (Flushes (flushed_keys t.now pid.0 addr size))
+    ensures passes { PassesIn G.unpaged (Flushes (keys_of_flush t.now pid.0 addr size))
         (G.store g.old) (G.store g.new) (G.behind g.old) (G.behind g.new) }
 {
     if !t.has(pid) {

@@ -5,7 +5,7 @@ use Rattle.std.specs.Prelude.{map, ◌||◌, ◌&&◌, ◌==◌, not, if◌then�
 use Rattle.std.specs.List.{list_any}
 use Rattle.mm_types.proofs.{rose_then, rose_later}
 use Rattle.mm_types.specs.{Direction}
-use Rattle.mm_devices.specs.{NamedCalls, same_direction, is_due, is_named, one_further, after_call, DeviceOf, Call, logged_call, Serves, AllServed}
+use Rattle.mm_devices.specs.{NamedCalls, same_direction, is_due, is_next_named, one_further, after_call, DeviceOf, Call, logged_call, Serves, AllServed}
 use Rattle.mm_devices.specs.{left_to_fail, CallFailed, IsLater}
 
 pub all_served_then : (cs ds : List Call) (a b c : DeviceOf) → AllServed cs a b → AllServed ds b c → AllServed (cs ++ ds) a c
@@ -49,11 +49,11 @@ left_after : (d : Direction) (cs : List NamedCalls) → left_to_fail (after_call
 left_after d [] = omega arith
 left_after d (c ∷ cs) = omega (arith, left_if (same_direction d c.direction) (c.passes == 0) c, left_after d cs)
 
-named_less : (d : Direction) (cs : List NamedCalls) → is_named d cs ≡ true → left_to_fail (after_call d cs) < left_to_fail cs
+named_less : (d : Direction) (cs : List NamedCalls) → is_next_named d cs ≡ true → left_to_fail (after_call d cs) < left_to_fail cs
 named_less d [] h = let bad : false ≡ true = h in cc
 named_less d (c ∷ cs) h = by (is_due d c) refl h (named_less d cs)
   where
-    by : (due : Bool) → is_due d c ≡ due → (due || is_named d cs) ≡ true → (is_named d cs ≡ true → left_to_fail (after_call d cs) < left_to_fail cs) → left_to_fail (after_call d (c ∷ cs)) < left_to_fail (c ∷ cs)
+    by : (due : Bool) → is_due d c ≡ due → (due || is_next_named d cs) ≡ true → (is_next_named d cs ≡ true → left_to_fail (after_call d cs) < left_to_fail cs) → left_to_fail (after_call d (c ∷ cs)) < left_to_fail (c ∷ cs)
     by true e q more = omega (arith, due_if (same_direction d c.direction) (c.passes == 0) (c.fails == 0) c refl e, left_after d cs)
     by false e q more = omega (arith, left_if (same_direction d c.direction) (c.passes == 0) c, more q)
 

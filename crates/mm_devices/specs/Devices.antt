@@ -5,7 +5,7 @@ use Rattle.mm_types.specs.{Rose, Direction}
 use Rattle.mm_types.specs.declared.devices.Direction.TheVariants as way
 use Rattle.mm_devices.specs.declared.device_calls.DeviceCall.{DeviceCall}
 use Rattle.mm_devices.specs.declared.device_calls.NamedCalls.{NamedCalls}
-use Rattle.mm_devices.specs.Traffic.{Logged, same_direction, is_named, after_call}
+use Rattle.mm_devices.specs.Traffic.{Logged, same_direction, is_next_named, after_call}
 
 pub record DeviceOf : Type 0 where
   pub log : Option (List DeviceCall)  -- the reads and writes that were passed on, where told
@@ -36,7 +36,7 @@ is_fault c = not c.named && not c.succeeded
 -- One call of a device. A named one fails and is not passed on, any other is in the log, where that
 -- is told. The count of faults rises where the device failed of itself, and only there.
 pub record Serves (c : Call) (old new : DeviceOf) : Type 0 where
-  pub is_one : is_named c.way old.named ≡ c.named
+  pub is_one : is_next_named c.way old.named ≡ c.named
   pub after : new.named ≡ after_call c.way old.named
   pub refused : c.named ≡ true → c.succeeded ≡ false
   pub quiet : c.named ≡ true → new.log ≡ old.log

@@ -3,7 +3,7 @@ pub mod Traffic
 pub mod Devices
 pub mod Reads
 pub mod Stores
-pub use Traffic.{NoneLogged, after_call, empty_block, is_due, is_named, one_further, same_direction}
+pub use Traffic.{NoneLogged, after_call, empty_block, is_due, is_next_named, one_further, same_direction}
 pub use Devices.{AllServed, Call, CallFailed, DeviceOf, IsLater, KeepsOthers, NamedMade, Serves}
 pub use Devices.{device_with, left_to_fail, logged_call, no_device, wrote_block}
 pub use Reads.{WasRead}

@@ -11,5 +11,5 @@ abbrev pub NextFails : List ℕ → ℕ → Type 0
 NextFails fails calls = Contains fails (next_call calls)
 
 -- what a log with room for so many calls tells after so many
-abbrev pub told : {X : Type 0} → ℕ → ℕ → List X → Option (List X)
-told room made calls = if nat_le made room then Some calls else None
+abbrev pub calls_told : {X : Type 0} → ℕ → ℕ → List X → Option (List X)
+calls_told room made calls = if nat_le made room then Some calls else None

@@ -45,8 +45,8 @@ one_further d c = if same_direction d c.direction then (if c.passes == 0 then re
 } else record c { passes = c.passes - 1 }) else c
 
 -- the next call of this direction is named to fail
-abbrev pub is_named : Direction → List NamedCalls → Bool
-is_named d calls = list_any (is_due d) calls
+abbrev pub is_next_named : Direction → List NamedCalls → Bool
+is_next_named d calls = list_any (is_due d) calls
 
 abbrev pub after_call : Direction → List NamedCalls → List NamedCalls
 after_call d calls = map (one_further d) calls

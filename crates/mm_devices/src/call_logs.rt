@@ -1,5 +1,5 @@
 ghost use Rattle.std.specs.Prelude.{◌≡◌, ◌≤◌, [], ◌∷◌, IfOk, IfSome, IsSome, ◌↔◌, Some, vec_len, vec_capacity};
-ghost use Rattle.mm_devices.specs.Numbered.{told, next_call};
+ghost use Rattle.mm_devices.specs.Numbered.{calls_told, next_call};
 ghost use Rattle.mm_devices.specs.Traffic.{Logged};
 
 use crate::DeviceCall;
@@ -43,8 +43,8 @@ impl CallLog {
 
     /// One more call.
     pub(crate) fn note(&mut self, call: DeviceCall)
-        ensures logged { Logged (told self.old.room self.old.made self.old.calls.items)
-            (told self.new.room self.new.made self.new.calls.items) (call ∷ []) }
+        ensures logged { Logged (calls_told self.old.room self.old.made self.old.calls.items)
+            (calls_told self.new.room self.new.made self.new.calls.items) (call ∷ []) }
         ensures room { self.new.room ≡ self.old.room }
         ensures made { self.new.made ≡ next_call self.old.made }
     {
@@ -57,7 +57,7 @@ impl CallLog {
     /// All calls since it was begun, where there was room for them.
     pub(crate) fn calls(&self) -> Option<&[DeviceCall]>
         ensures calls { IfSome result
-            (λ calls. told self.now.room self.now.made self.now.calls.items ≡ Some calls.now) }
+            (λ calls. calls_told self.now.room self.now.made self.now.calls.items ≡ Some calls.now) }
         ensures cases { IsSome result ↔ (self.now.made ≤ self.now.room) }
     {
         if self.made <= u64::from(self.room) {

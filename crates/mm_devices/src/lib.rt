@@ -13,7 +13,7 @@ mod stores;
 ghost use Rattle.std.specs.Prelude.{◌≡◌, ◌≤◌, ◌<◌, ◌+◌, ◌-◌, ◌++◌, [], ◌∷◌, List, ℕ, Option, Some, OnOk, OnErr, is_ok, length, replicate, slice_get, slice_set};
 ghost use Rattle.mm_types.specs.{Loans};
 ghost use Rattle.mm_types.specs.declared.devices.Direction.TheVariants as way;
-ghost use Rattle.mm_devices.specs.Traffic.{Logged, NoneLogged, HasCallCause, HasOpenCause, made_call, is_named, empty_block};
+ghost use Rattle.mm_devices.specs.Traffic.{Logged, NoneLogged, HasCallCause, HasOpenCause, made_call, is_next_named, empty_block};
 ghost use Rattle.mm_devices.specs.Devices.{Serves, device_with};
 
 pub use device_calls::{DeviceCall, NamedCalls};
@@ -120,7 +120,7 @@ pub trait Inject {
           way = way.Read;
           block = i;
           succeeded = is_ok result;
-          named = is_named way.Read (named self.old);
+          named = is_next_named way.Read (named self.old);
         })
             (device_with (log self.old) (named self.old) (faults self.old))
             (device_with (log self.new) (named self.new) (faults self.new)) }
@@ -136,7 +136,7 @@ pub trait Inject {
           way = way.Write;
           block = i;
           succeeded = is_ok result;
-          named = is_named way.Write (named self.old);
+          named = is_next_named way.Write (named self.old);
         })
             (device_with (log self.old) (named self.old) (faults self.old))
             (device_with (log self.new) (named self.new) (faults self.new)) }

@@ -2,7 +2,7 @@ ghost use Rattle.std.specs.Prelude.{◌≡◌, ◌≤◌, ◌<◌, ◌+◌, ◌+
 ghost use Rattle.mm_types.specs.{Loans, NoLoan};
 ghost use Rattle.mm_types.specs.declared.devices.Direction.TheVariants as way;
 ghost use Rattle.mm_types.specs.declared.faults.OpenFault.TheVariants as fault;
-ghost use Rattle.mm_devices.specs.Numbered.{NextFails, next_call, told};
+ghost use Rattle.mm_devices.specs.Numbered.{NextFails, next_call, calls_told};
 ghost use Rattle.mm_devices.specs.Traffic.{Logged, NoneLogged, HasCallCause, HasOpenCause, made_call, empty_block};
 
 use crate::call_logs::CallLog;
@@ -102,7 +102,7 @@ impl MemBlocks {
 impl BlockDevice for MemBlocks {
     ghost blocks = { λ d. d.blocks };
 
-    ghost log = { λ d. told d.log.room d.log.made d.log.calls.items };
+    ghost log = { λ d. calls_told d.log.room d.log.made d.log.calls.items };
 
     ghost faults = { λ d. d.list.faults };
 
@@ -111,10 +111,10 @@ impl BlockDevice for MemBlocks {
     fn open(&mut self, n: u32) -> Result<(), OpenFault>
         ensures ok { OnOk result (self.new.blocks ≡ replicate n empty_block) }
         ensures log { OnOk result (NoneLogged
-            (told self.new.log.room self.new.log.made self.new.log.calls.items)) }
+            (calls_told self.new.log.room self.new.log.made self.new.log.calls.items)) }
         ensures err_log { OnErr result
-            (told self.new.log.room self.new.log.made self.new.log.calls.items ≡
-            told self.old.log.room self.old.log.made self.old.log.calls.items) }
+            (calls_told self.new.log.room self.new.log.made self.new.log.calls.items ≡
+            calls_told self.old.log.room self.old.log.made self.old.log.calls.items) }
         ensures cause { HasOpenCause self.old.list.faults self.new.list.faults result }
         ensures loans { NoLoan ≡ NoLoan }
         ensures err { OnErr result (self.new.blocks ≡ self.old.blocks) }
@@ -140,8 +140,8 @@ impl BlockDevice for MemBlocks {
     fn extend(&mut self, n: u32) -> Result<(), OpenFault>
         ensures ok { OnOk result (self.new.blocks ≡ self.old.blocks ++ replicate n empty_block) }
         ensures err { OnErr result (self.new.blocks ≡ self.old.blocks) }
-        ensures log { told self.new.log.room self.new.log.made self.new.log.calls.items ≡
-            told self.old.log.room self.old.log.made self.old.log.calls.items }
+        ensures log { calls_told self.new.log.room self.new.log.made self.new.log.calls.items ≡
+            calls_told self.old.log.room self.old.log.made self.old.log.calls.items }
         ensures cause { HasOpenCause self.old.list.faults self.new.list.faults result }
         ensures loans { NoLoan ≡ NoLoan }
         ensures fails { IsErrOf result fault.Failed ↔ NextFails self.old.list.fails.items
@@ -161,8 +161,8 @@ impl BlockDevice for MemBlocks {
         ensures ok { OnOk result (slice_get self.old.blocks i ≡ Some out.new) }
         ensures err { OnErr result (out.new ≡ out.old) }
         ensures blocks { self.new.blocks ≡ self.old.blocks }
-        ensures logged { Logged (told self.old.log.room self.old.log.made self.old.log.calls.items)
-            (told self.new.log.room self.new.log.made self.new.log.calls.items)
+        ensures logged { Logged (calls_told self.old.log.room self.old.log.made self.old.log.calls.items)
+            (calls_told self.new.log.room self.new.log.made self.new.log.calls.items)
             (made_call way.Read i result ∷ []) }
         ensures cause { HasCallCause self.old.list.faults self.new.list.faults result }
         ensures loans { NoLoan ≡ NoLoan }
@@ -189,8 +189,8 @@ impl BlockDevice for MemBlocks {
         requires { i < length self.old.blocks }
         ensures ok { OnOk result (self.new.blocks ≡ slice_set self.old.blocks i bytes.now) }
         ensures err { OnErr result (self.new.blocks ≡ self.old.blocks) }
-        ensures logged { Logged (told self.old.log.room self.old.log.made self.old.log.calls.items)
-            (told self.new.log.room self.new.log.made self.new.log.calls.items)
+        ensures logged { Logged (calls_told self.old.log.room self.old.log.made self.old.log.calls.items)
+            (calls_told self.new.log.room self.new.log.made self.new.log.calls.items)
             (made_call way.Write i result ∷ []) }
         ensures cause { HasCallCause self.old.list.faults self.new.list.faults result }
         ensures loans { NoLoan ≡ NoLoan }

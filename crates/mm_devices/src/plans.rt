@@ -1,5 +1,5 @@
 ghost use Rattle.std.specs.Prelude.{◌≡◌, ◌≤◌, ◌<◌, ◌+◌, ◌-◌, [], ◌∷◌, ◌++◌, length, take, map};
-ghost use Rattle.mm_devices.specs.Traffic.{is_due, is_named, after_call, one_further};
+ghost use Rattle.mm_devices.specs.Traffic.{is_due, is_next_named, after_call, one_further};
 
 use crate::NamedCalls;
 use mm_types::Direction;
@@ -62,7 +62,7 @@ fn move_on(entries: &mut [NamedCalls; ROOM], count: usize, direction: Direction)
 /// Whether the next call of this direction is one of the first `count` of these.
 fn is_due(entries: &[NamedCalls; ROOM], count: usize, direction: Direction) -> bool
     requires { count ≤ 64 }
-    ensures { result ≡ is_named direction (take count entries.now) }
+    ensures { result ≡ is_next_named direction (take count entries.now) }
 {
     entries[..count]
         .iter()
@@ -106,7 +106,7 @@ impl Plan {
 
     /// One more call of this direction: whether it was named to fail.
     pub(crate) fn fails(&mut self, direction: Direction) -> bool
-        ensures due { result ≡ is_named direction self.old }
+        ensures due { result ≡ is_next_named direction self.old }
         ensures named { self.new ≡ after_call direction self.old }
     {
         let due = is_due(&self.entries, self.count, direction);

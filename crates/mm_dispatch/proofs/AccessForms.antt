@@ -2,18 +2,21 @@
 use Rattle.std.proofs.Common.{◌≡◌, ℕ, ◌+◌, List, [], ◌∷◌, ◌++◌, Bool, true, false, Option, Some, None, refl, sym, ap, ◌∙◌, cond, arith, ◌≤◌, subst, option_map, unwrap_or, is_some}
 use Rattle.std.specs.Prelude.{count_by, ◌==◌, ◌&&◌, ◌||◌, IsTrue, Result, Ok, Err}
 use Rattle.std.proofs.lemmas.List.Sums.{sum_by-append}
-use Rattle.mm_types.specs.{LineKind, Move, Stored, Place, Frame, Answer, PageFault, Key, Pid, page_of}
+use Rattle.mm_types.specs.{LineKind, Move, Stored, Place, Frame, Answer, Why, PageFault, Key, Pid, page_of}
+use Rattle.mm_types.proofs.{or_left}
 use Rattle.mm_move_rules.specs.{FrameLife, record_at, is_write as is_write_request, IsLegal, is_thread, is_access, is_io, is_call, after_move}
 use Rattle.mm_move_rules.specs.{after_unmap_at, after_write_to, Replays, Waiting, Idle, ended_by, waits_after, Walk, walked, walked_all, Through}
 use Rattle.mm_move_rules.specs.{waits_through, ages_through, tried_after, is_read_move, is_wrote_move, takes_frame}
-use Rattle.mm_store.specs.{changed, Aim, AccessMove, ReadyMoves, key_written, ByCopy, FromFull, InShortage, walk_from, StoreOf, same_place, place_at, PassesIn}
-use Rattle.mm_store.specs.{AccessEnds, Had, Failed, ReadFails, is_read_fault, Touches, Copies, PageGoes}
+use Rattle.mm_store.specs.{Aim, AccessMove, ReadyMoves, key_written, ByCopy, FromFull, InShortage, walk_from, StoreOf, place_at, PassesIn}
+use Rattle.mm_move_rules.specs.{same_place}
+use Rattle.mm_move_rules.specs.{changed}
+use Rattle.mm_store.specs.{AccessEnds, IsSoiledFor, Had, Failed, ReadFails, is_read_fault, Touches, Copies, PageGoes}
 use Rattle.mm_store.specs.Behind.{Behind}
 use Rattle.mm_world.specs.{WorldOf, Attempt, Need, same_key, need_at, read_failed}
 use Rattle.mm_world.specs.Report.{Report}
 use Rattle.mm_store.specs.Reports.{Ends}
 use Rattle.mm_store.proofs.{Joins, passes_then, waits_then, ages_then, accesses_then, fails_then}
-use Rattle.mm_line_moves.specs.{aim_at, is_write, is_had, is_failed, is_pending_read}
+use Rattle.mm_line_moves.specs.{aim_at, is_write_attempt, is_access_pending, is_access_served, is_failed, is_pending_read}
 use Rattle.mm_line_moves.proofs.{ready_moves}
 use Rattle.mm_dispatch.specs.{AnswersAccess, Answered}
 use Rattle.mm_dispatch.proofs.Begun.{passes_as}
@@ -113,7 +116,7 @@ thread-after a w m rest th h = ap is_thread (kind-after a w m rest h) ∙ th
 goes-start : (a : Aim) (l : FrameLife) (w : Walk) (p : Place) (ms : List Move) → PageGoes a w p ms → PageGoes (record a { start = l }) w p ms
 goes-start a l w p ms (ByCopy x c shows next) = ByCopy x c shows next
 goes-start a l w p ms (FromFull x none full old next) = FromFull x none full old next
-goes-start a l w p ms (InShortage s n v) = InShortage s n v
+goes-start a l w p ms (InShortage x s n v) = InShortage x s n v
 
 -- a move that reads no page is one of the access however the frames stood when its line began
 start-move : (a : Aim) (l : FrameLife) (w : Walk) (m : Move) (rest : List Move) → is_thread w.life.kind ≡ true → IsLegal m w.life → is_read_move m ≡ false → AccessMove a w m rest → AccessMove (record a { start = l }) w m rest
@@ -169,19 +172,19 @@ kind-through a (x ∷ ms) w m r h = kind-through a ms (walked w x) m r.1 h.1 ∙
 
 -- ---- what an access is about
 
-pub aim-needs : {B : Type 0} (w : WorldOf B) (l : FrameLife) (pid : Pid) (addr : ℕ) (what : Attempt) (n : Need) → need_at w pid.0 addr what ≡ Some n → aim_at w l pid addr what ≡ Some (record { place = place_at pid (page_of addr); need = n; writes = is_write what; start = l })
+pub aim-needs : {B : Type 0} (w : WorldOf B) (l : FrameLife) (pid : Pid) (addr : ℕ) (what : Attempt) (n : Need) → need_at w pid.0 addr what ≡ Some n → aim_at w l pid addr what ≡ Some (record { place = place_at pid (page_of addr); need = n; writes = is_write_attempt what; start = l })
 aim-needs w l pid addr what n e =
-    ap (option_map (λ (n : Need). let a : Aim = record { place = place_at pid (page_of addr); need = n; writes = is_write what; start = l } in a)) e
+    ap (option_map (λ (n : Need). let a : Aim = record { place = place_at pid (page_of addr); need = n; writes = is_write_attempt what; start = l } in a)) e
 
 pub aim-needless : {B : Type 0} (w : WorldOf B) (l : FrameLife) (pid : Pid) (addr : ℕ) (what : Attempt) → need_at w pid.0 addr what ≡ None → aim_at w l pid addr what ≡ None
 aim-needless w l pid addr what e =
-    ap (option_map (λ (n : Need). let a : Aim = record { place = place_at pid (page_of addr); need = n; writes = is_write what; start = l } in a)) e
+    ap (option_map (λ (n : Need). let a : Aim = record { place = place_at pid (page_of addr); need = n; writes = is_write_attempt what; start = l } in a)) e
 
 -- ---- how an access is answered by how its call of the store ended
 
 -- an answer that gives the access its bytes
 pub record Gives (r : Answer) : Type 0 where
-  pub had : is_had r ≡ true
+  pub had : is_access_served r ≡ true
   pub fine : is_failed r ≡ false
   pub settled : is_pending_read r ≡ false
 
@@ -191,10 +194,25 @@ gives_bytes bytes = record { had = refl; fine = refl; settled = refl }
 pub gives_ok : Gives answer.Ok
 gives_ok = record { had = refl; fine = refl; settled = refl }
 
-no_frame : (n : Need) (after : Report) {T : Type 0} (why : PageFault) → Ends {T = T} n after (Err why) → after.last_failed_read ≡ None → why ≡ fault.NoFrame
+no_frame : (n : Need) (after : Report) {T : Type 0} (why : PageFault) → Ends {T = T} n after (Err why) → read_failed n after ≡ false → why ≡ fault.NoFrame
 no_frame n after fault.NoFrame e none = refl
 no_frame n after fault.Read e none =
-    let bad : true ≡ false = sym (e.read refl) ∙ ap (λ (o : Option Key). unwrap_or (option_map (same_key n.key) o) false) none in cc
+    let bad : true ≡ false = sym (e.read refl) ∙ none in cc
+
+-- an access that was answered does not wait
+pub answered_at_once : (r : Answer) → (is_access_served r || is_failed r) ≡ true → is_access_pending r ≡ false
+answered_at_once (answer.Pending w) e = cc
+answered_at_once r e = refl
+
+-- of an access that does not fail, and is answered, the bytes are there
+or_both : (a b c : Bool) → (a || b) ≡ true → (a || b || c) ≡ true
+or_both a b c e = grind (arith, e)
+
+pub answers_some : (r : Answer) → (is_access_served r || is_failed r) ≡ true → (is_access_served r || is_failed r || is_access_pending r) ≡ true
+answers_some r e = or_both (is_access_served r) (is_failed r) (is_access_pending r) e
+
+pub never_pending : (r : Answer) (w : Why) → (is_access_served r || is_failed r) ≡ true → r ≡ answer.Pending w → ⊥
+never_pending r w e is = let bad : true ≡ false = ap is_access_pending (sym is) ∙ answered_at_once r e in cc
 
 why_failed : (n : Need) (after : Report) {T : Type 0} (why : PageFault) → Ends {T = T} n after (Err why) → read_failed n after ≡ is_read_fault why
 why_failed n after fault.NoFrame e = (e.no_frame refl).0
@@ -205,7 +223,9 @@ module _ (a : Aim) (after : Report) (b : Behind) (ms : List Move) (c : Behind) w
   answers_had r g h = record {
     made = h.made;
     read = subst (λ (f : Bool). ReadFails (f && read_failed a.need after) ms) (sym g.fine) h.read;
-    valid = λ e. h.valid;
+    answers = or_left (is_access_served r) (is_failed r) g.had;
+    served = λ e. h.served;
+    short = λ e n. let bad : true ≡ false = sym e ∙ g.fine in cc;
     starved = λ e n. let bad : true ≡ false = sym e ∙ g.fine in cc;
     ages = h.ages ∙ (λ i. λ p. cond (sym g.had i) (changed same_place (ages_through ms b.ages) a.place 0 p) (ages_through ms b.ages p));
     waits = h.waits;
@@ -216,7 +236,9 @@ module _ (a : Aim) (after : Report) (b : Behind) (ms : List Move) (c : Behind) w
   answers_lost why e h = record {
     made = h.made;
     read = subst (λ (f : Bool). ReadFails f ms) (sym (why_failed a.need after why e)) h.read;
-    valid = λ bad. cc;
+    answers = refl;
+    served = λ bad. cc;
+    short = λ f none. h.short (no_frame a.need after why e none);
     starved = λ f none. h.starved (no_frame a.need after why e none);
     ages = h.ages;
     waits = h.waits;
@@ -274,12 +296,12 @@ module _ {S T : Type 0} (u : Bool) (a : Aim) (Ready : Type 0) (first : Result S 
 
 -- ---- a write to a copy: the copy, and then the write, which is ready
 
-module _ (a own : Aim) (place : own.place ≡ a.place) (writes : a.writes ≡ true) (page : key_written own.need ≡ key_written a.need) (Was Ready : Type 0) (ready : Ready) where
+module _ (a own : Aim) (place : own.place ≡ a.place) (writes : a.writes ≡ true) (wrote : own.writes ≡ true) (page : key_written own.need ≡ key_written a.need) (Was Ready : Type 0) (ready : Ready) where
   had_then : (b c d : Behind) (xs ys : List Move) → Replays xs b.life c.life → Had a b xs c → Had own c ys d → (Ready → ReadyMoves own ys c) → Had a b (xs ++ ys) d
   had_then b c d xs ys r p q calm =
       let still : ReadyMoves own ys c = calm ready in
       let reads : count_by is_read_move ys ≡ 0 = ready-reads own ys c still in
-      let wrote : count_by is_wrote_move ys ≡ 0 = ready-wrote own ys c still in
+      let written : count_by is_wrote_move ys ≡ 0 = ready-wrote own ys c still in
       let one : count_by is_read_move xs ≤ 1 = p.made.one_read in
       let few : count_by is_wrote_move xs ≤ count_by takes_frame xs = p.made.few_writes in
       let all_reads = count-then is_read_move xs ys in
@@ -289,11 +311,14 @@ module _ (a own : Aim) (place : own.place ≡ a.place) (writes : a.writes ≡ tr
         made = record {
           each = accesses_then a xs ys (walk_from b) p.made.each (ready_moves own a ys c (walked_all (walk_from b) xs) (sym place) writes page (walked_life xs (walk_from b) c.life r) still);
           one_read = omega (arith, all_reads, reads, one);
-          few_writes = omega (arith, all_wrote, all_takes, wrote, few);
+          few_writes = omega (arith, all_wrote, all_takes, written, few);
         };
         read = fails_then false xs ys p.read q.read;
         waits = q.waits ∙ ap (waits_through ys) p.waits ∙ sym (waits_then xs ys b.waits);
-        valid = ap (λ (x : Place). is_some (d.life.valid x)) (sym place) ∙ q.valid;
+        served = record {
+          valid = ap (λ (x : Place). is_some (d.life.valid x)) (sym place) ∙ q.served.valid;
+          soiled = λ w f e. subst (λ (k : Key). IsSoiledFor k (record_at d.life.frames f.0)) page (q.served.soiled wrote f (ap d.life.valid place ∙ e));
+        };
         ages =
             q.ages
             ∙ (λ i. changed same_place (ready-ages own ys c c.ages still i) (place i) 0)

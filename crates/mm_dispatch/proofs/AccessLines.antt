@@ -10,7 +10,8 @@ use Rattle.mm_world.specs.{Tables, world_with, process_of}
 use Rattle.mm_world.specs.World.{World}
 use Rattle.mm_world.specs.Report.{Report}
 use Rattle.mm_world.proofs.{Holds, tables}
-use Rattle.mm_store.specs.{StoreOf, changed, Served, SomeFailed, place_at, IsReady, Ghosts as PageStoreGhosts, Aim, OneMove}
+use Rattle.mm_store.specs.{StoreOf, Served, SomeFailed, place_at, IsReady, Ghosts as PageStoreGhosts, Aim, OneMove}
+use Rattle.mm_move_rules.specs.{changed}
 use Rattle.mm_store.specs.Reports.{Ends}
 use Rattle.mm_object_tables.specs.{key_bytes, MadeAtMost}
 use Rattle.mm_dispatch.specs.{IsFailure, Named, FlushServed, Refuses, Accessed, Stepped, KeepsTables, LineBegins, Decided, AccessEnded, AccessDone}
@@ -19,7 +20,7 @@ use Rattle.mm_dispatch.specs.{DecidedOver, PassesOver}
 use Rattle.mm_dispatch.proofs.Lines.{devices-served, served-quiet, quiet-same}
 use Rattle.mm_dispatch.proofs.Lines.{stepped-plain, never-fails}
 use Rattle.mm_store.specs.Behind.{Behind}
-use Rattle.mm_line_moves.specs.{is_write, kind_of_line, if_lives, aim_of, Does, AccessesBy, waits_of_line, asks_beside}
+use Rattle.mm_line_moves.specs.{is_write_attempt, kind_of_line, if_lives, aim_of, Does, AccessesBy, waits_of_line, asks_beside}
 use Rattle.mm_dispatch.proofs.AccessForms.{Gives, Tells, aim-needs, answered_had, answered_lost, aim-needless}
 use Rattle.mm_dispatch.proofs.Readiness.{had_ready}
 use Rattle.mm_move_rules.specs.{Waiting, FrameLife}
@@ -145,8 +146,8 @@ module _ (c : Key → Option Page) (key : Key) where
 -- ---- from what the call of the store came to
 
 module _ {G : Type 0} (p : PageStoreGhosts G) (t : Tables) {after : Tables} {g h : G} (pid : Pid) (addr : ℕ) (what : Attempt) {T : Type 0} (result : Result T PageFault) where
-  module _ (need : Need) (needs : need_at (world_over p t g) pid.0 addr what ≡ Some need) (ends : Ends need (p.store h).report result) {Moved : Behind → List Move → Behind → Type 0} (e : AccessEnded p Moved (place_at pid (page_of addr)) need result after g h) (tells : Tells (aim_for p (place_at pid (page_of addr)) need (is_write what) g) (IsReady (p.store g) (place_at pid (page_of addr)) need) result Moved) (v : Tables) (fits : FitsOver p v h) (few : MadeAtMost (p.store g).line v) where
-    aims : aim_over p t g pid addr what ≡ Some (aim_for p (place_at pid (page_of addr)) need (is_write what) g)
+  module _ (need : Need) (needs : need_at (world_over p t g) pid.0 addr what ≡ Some need) (ends : Ends need (p.store h).report result) {Moved : Behind → List Move → Behind → Type 0} (e : AccessEnded p Moved (place_at pid (page_of addr)) need result after g h) (tells : Tells (aim_for p (place_at pid (page_of addr)) need (is_write_attempt what) g) (IsReady (p.store g) (place_at pid (page_of addr)) need) result Moved) (v : Tables) (fits : FitsOver p v h) (few : MadeAtMost (p.store g).line v) where
+    aims : aim_over p t g pid addr what ≡ Some (aim_for p (place_at pid (page_of addr)) need (is_write_attempt what) g)
     aims = aim-needs (world_over p t g) (p.behind g).life pid addr what need needs
 
     keeps : KeepsOver p v h
@@ -158,7 +159,7 @@ module _ {G : Type 0} (p : PageStoreGhosts G) (t : Tables) {after : Tables} {g h
       keeps = keeps;
       had = λ ready. had_ready need (p.store h).report result ends (e.was_ready ready);
       line = e.line;
-      passes = answered_had p.unpaged (aim_over p t g pid addr what) (aim_for p (place_at pid (page_of addr)) need (is_write what) g) aims (IsReady (p.store g) (place_at pid (page_of addr)) need) result Moved tells (p.store g) (p.store h) (p.behind g) (p.behind h) x a is gives e.passes;
+      passes = answered_had p.unpaged (aim_over p t g pid addr what) (aim_for p (place_at pid (page_of addr)) need (is_write_attempt what) g) aims (IsReady (p.store g) (place_at pid (page_of addr)) need) result Moved tells (p.store g) (p.store h) (p.behind g) (p.behind h) x a is gives e.passes;
     }
 
     pub access-lost : (x : PageFault) → result ≡ Err x → world_over p v h ≡ world_over p t g → AccessDone p what pid addr need t g (answer.Raised raise.InPageError) v h
@@ -167,7 +168,7 @@ module _ {G : Type 0} (p : PageStoreGhosts G) (t : Tables) {after : Tables} {g h
       keeps = keeps;
       had = λ ready. had_ready need (p.store h).report result ends (e.was_ready ready);
       line = e.line;
-      passes = answered_lost p.unpaged (aim_over p t g pid addr what) (aim_for p (place_at pid (page_of addr)) need (is_write what) g) aims (IsReady (p.store g) (place_at pid (page_of addr)) need) result Moved tells (p.store g) (p.store h) (p.behind g) (p.behind h) x is ends e.passes;
+      passes = answered_lost p.unpaged (aim_over p t g pid addr what) (aim_for p (place_at pid (page_of addr)) need (is_write_attempt what) g) aims (IsReady (p.store g) (place_at pid (page_of addr)) need) result Moved tells (p.store g) (p.store h) (p.behind g) (p.behind h) x is ends e.passes;
     }
 
 -- ---- decided and noted

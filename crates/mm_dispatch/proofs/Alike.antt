@@ -15,7 +15,7 @@ use Rattle.mm_world.proofs.{live_back, first-map, some-map, tables_back}
 use Rattle.mm_store.specs.{page_rank, or_else, last_rank, rank_behind, handle_rank, section_rank, goes_with, leaving}
 use Rattle.mm_line_moves.specs.{lives, row_key, if_lives, file_block_of, is_uncommitted, flushed_in, flushed_keys}
 use Rattle.mm_object_tables.specs.{key_at, file_block_in, is_uncommitted as is_free}
-use Rattle.mm_calls.specs.{keys_of_region, flushed_keys as keys_flushed}
+use Rattle.mm_calls.specs.{keys_of_region, keys_of_flush as keys_flushed}
 use Rattle.mm_dispatch.proofs.With.{found_with, home_with, committed_with, pages-with, area-with, process-with, committed-with}
 
 module _ (t : Tables) (b : Key → Page) where

@@ -15,7 +15,7 @@ use Rattle.mm_store.specs.{PassesIn, Notes, NotesIn, Goes}
 use Rattle.mm_line_moves.specs.{kind_of_line, Does, HoldsBeside, asks_beside, with_line, lives, if_lives, made_process, kind_of_growth, GivesUp, Trimming}
 use Rattle.mm_line_moves.specs.{keeps_for}
 use Rattle.mm_object_tables.specs.{Called, FitsTables, Settled, key_bytes, MakesPages, StaysIdle, is_uncommitted as is_free}
-use Rattle.mm_calls.specs.{AnswersCall, LacksMemory, LosesPages, GrowsBy, flushed_keys as keys_flushed}
+use Rattle.mm_calls.specs.{AnswersCall, LacksMemory, LosesPages, GrowsBy, keys_of_flush as keys_flushed}
 use Rattle.mm_dispatch.specs.{takes_memory, IsNext, MakesLine, StartsCall, StartsLine, TakesLine, LineWent, TellsLine, DecidedOver, HaltedOver, FitsOver}
 use Rattle.mm_dispatch.specs.{MarkedOver, PassesOver, world_over, AskedBeside, EndsWaits, FlushServed, Named, is_of_process, waited, StartsRelease}
 use Rattle.mm_dispatch.specs.{keeps_keys, takes_away, EachMove, IdlesIn, idle_left, Halted}

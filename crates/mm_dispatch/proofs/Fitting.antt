@@ -6,7 +6,9 @@ use Rattle.mm_types.specs.{Key, Place}
 use Rattle.mm_types.specs.declared.numbers.Key.TheVariants as key
 use Rattle.mm_world.specs.{Page, same_key, content_of, Tables}
 use Rattle.mm_world.specs.Report.{Report}
-use Rattle.mm_store.specs.{Ready, StoreOf, changed, same_place, own_key, fetched, rearranged, Served}
+use Rattle.mm_store.specs.{Ready, StoreOf, own_key, fetched, rearranged, Served}
+use Rattle.mm_move_rules.specs.{same_place}
+use Rattle.mm_move_rules.specs.{changed}
 use Rattle.mm_object_tables.specs.{FitsTables, key_at, copied}
 use Rattle.mm_types.proofs.{parts}
 use Rattle.mm_dispatch.proofs.Lines.{all-named}

@@ -1,25 +1,27 @@
 -- A line's piece of the log: its `at`, and an access behind it, or none.
 use Rattle.std.proofs.Common.{◌≡◌, ℕ, List, [], ◌∷◌, ◌++◌, Bool, true, false, Option, Some, None, refl, sym, ap, ◌∙◌, subst, cond, option_map, is_some, arith, inl}
-use Rattle.std.specs.Prelude.{◌==◌, ◌&&◌}
+use Rattle.std.specs.Prelude.{◌==◌, ◌&&◌, ◌||◌}
 use Rattle.std.proofs.lemmas.List.{append-nil}
 use Rattle.mm_types.specs.{Answer, Why, Event, Held, Move, Pid, Place, page_of}
-use Rattle.mm_types.proofs.{some_found}
-use Rattle.mm_move_rules.specs.{FrameLife, after_move, Replays, is_valid, Starved, Waiting, Idle, Walk, walked_all, waits_through, ages_through, Through}
+use Rattle.mm_types.proofs.{or_right, some_found}
+use Rattle.mm_move_rules.specs.{FrameLife, after_move, Replays, Starved, Waiting, Idle, Walk, walked_all, waits_through, ages_through, Through}
 use Rattle.mm_move_rules.specs.{walked}
 use Rattle.mm_world.specs.World.{World}
 use Rattle.mm_world.specs.{Attempt, Need, BeingRead, need_at, Tables, read_failed}
 use Rattle.mm_world.specs.Report.{Report}
-use Rattle.mm_store.specs.{StoreOf, changed, same_place, place_at, PassesIn, Aim, AccessMoves, Forgets, wait_begun, walk_from, OneMove, NoMove}
+use Rattle.mm_store.specs.{StoreOf, place_at, PassesIn, Aim, AccessMoves, Forgets, wait_begun, walk_from, OneMove, NoMove}
+use Rattle.mm_move_rules.specs.{same_place}
+use Rattle.mm_move_rules.specs.{changed}
 use Rattle.mm_store.specs.{AccessMove, ReadFails, Ghosts as PageStoreGhosts}
 use Rattle.mm_store.specs.Behind.{Behind}
 use Rattle.mm_store.proofs.{Joins, passes_then}
-use Rattle.mm_line_moves.specs.{aim_at, aim_of, is_write, kind_of_line, Accesses, AccessesBy, Does, ages_of_line, waits_of_line, awaited, is_had}
+use Rattle.mm_line_moves.specs.{aim_at, aim_of, is_write_attempt, kind_of_line, Accesses, AccessesBy, Does, ages_of_line, waits_of_line, awaited, is_access_served}
 use Rattle.mm_line_moves.specs.{is_failed, is_pending_read, place_had, with_line, asks_beside}
 use Rattle.mm_line_moves.proofs.{moves_from}
 use Rattle.mm_dispatch.specs.{Answered, MadeBy, WaitsBy, Lined, AnswersLine, DecidedOver, MarkedOver, PassesOver, world_over, keeps_keys, EachMove}
 use Rattle.mm_dispatch.specs.{LineWent, TellsLine}
 use Rattle.mm_dispatch.proofs.Begun.{passes_as, passes_with}
-use Rattle.mm_dispatch.proofs.AccessForms.{twice}
+use Rattle.mm_dispatch.proofs.AccessForms.{answered_at_once, answers_some, never_pending, twice}
 use Rattle.mm_dispatch.proofs.Begun.{Opens, paged, went_from}
 use Rattle.mm_types.specs.declared.answers.Answer.TheVariants as answer
 use Rattle.mm_types.specs.declared.answers.Why.TheVariants as why
@@ -89,22 +91,24 @@ module _ (plain : Bool) (w : World) (e : Event) (n : ℕ) (r : Answer) (v : Worl
     m = move.At n (kind_of_line w e r)
 
     -- an access behind the `at`
-    lined : (a : Aim) → aim_at w y.life pid addr what ≡ Some a → AccessMoves a y ys → ReadFails (plain && is_failed r && read_failed a.need after) ys → (plain ≡ false → is_failed r ≡ true → ys ≡ []) → (is_had r ≡ true → is_valid c.life a.place ≡ true)
-        → (is_pending_read r ≡ true → after.whereabouts a.need.key ≡ Some BeingRead)
-        → (plain ≡ true → is_failed r ≡ true → after.last_failed_read ≡ None → Starved (c.life.valid a.place) (walked_all (walk_from y) ys))
+    lined : (a : Aim) → aim_at w y.life pid addr what ≡ Some a → Accesses plain a r after y ys c
         → c.ages ≡ place_had (Some a) r (ages_through ys y.ages) → c.waits ≡ waits_of_line w e r b (waits_through ys b.waits) c.life
         → Lined w e n r v after b (xs ++ ys) c
-    lined a is made read still valid awaited starved ages waits =
+    lined a is came ages waits =
         let life : y.life ≡ after_move b.life m = begun_life m b y xs rep p in
         let old : y.ages ≡ b.ages = begun_ages m b y xs rep p in
         let aim : aim_of w (with_line m b).life e ≡ Some a = form.aim (after_move b.life m) ∙ ap (λ (l : FrameLife). aim_at w l pid addr what) (sym life) ∙ is in
         let accesses : Accesses plain a r after (with_line m b) ys c = record {
-          made = moves_from a m b y ys life old made;
-          read = read;
-          still = still;
-          valid = valid;
-          awaited = awaited;
-          starved = λ x f none. subst (λ (u : Walk). Starved (c.life.valid a.place) (walked_all u ys)) (walk-begun m b y life old) (starved x f none);
+          made = moves_from a m b y ys life old came.made;
+          read = came.read;
+          still = came.still;
+          answers = came.answers;
+          at_once = came.at_once;
+          served = came.served;
+          held_up = came.held_up;
+          awaited = came.awaited;
+          short = came.short;
+          starved = λ x f none. subst (λ (u : Walk). Starved (c.life.valid a.place) (walked_all u ys)) (walk-begun m b y life old) (came.starved x f none);
         } in
         record {
           moves = ys;
@@ -113,7 +117,7 @@ module _ (plain : Bool) (w : World) (e : Event) (n : ℕ) (r : Answer) (v : Worl
           ages =
               ages
               ∙ ap (λ (o : Option Aim). place_had o r (ages_through ys y.ages)) (sym is)
-              ∙ place-start (place_at pid (page_of addr)) (is_write what) y.life b.life (need_at w pid.0 addr what) r (ages_through ys y.ages)
+              ∙ place-start (place_at pid (page_of addr)) (is_write_attempt what) y.life b.life (need_at w pid.0 addr what) r (ages_through ys y.ages)
               ∙ ap (λ (f : Place → ℕ). place_had (aim_at w b.life pid addr what) r (ages_through ys f)) old
               ∙ ap (λ (o : Option Aim). place_had o r (ages_through ys b.ages)) (sym (form.aim b.life))
               ∙ sym (form.ages b ys);
@@ -123,7 +127,18 @@ module _ (plain : Bool) (w : World) (e : Event) (n : ℕ) (r : Answer) (v : Worl
     -- a plain access
     lined_plain : {Ready : Type 0} → plain ≡ true → ((f : ℕ → Waiting) (l : FrameLife) → waits_of_line w e r b f l ≡ f) → Answered (aim_at w y.life pid addr what) Ready r after y ys c → Lined w e n r v after b (xs ++ ys) c
     lined_plain always waits q =
-        lined q.aimed q.is q.answers.made (subst (λ (f : Bool). ReadFails (f && is_failed r && read_failed q.aimed.need after) ys) (sym always) q.answers.read) (λ never. let bad : true ≡ false = sym always ∙ never in cc) q.answers.valid (λ pends. let bad : true ≡ false = sym pends ∙ q.answers.settled in cc) (λ x. q.answers.starved) q.answers.ages
+        lined q.aimed q.is (record {
+          made = q.answers.made;
+          read = subst (λ (f : Bool). ReadFails (f && is_failed r && read_failed q.aimed.need after) ys) (sym always) q.answers.read;
+          still = λ never. let bad : true ≡ false = sym always ∙ never in cc;
+          answers = answers_some r q.answers.answers;
+          at_once = λ x. answered_at_once r q.answers.answers;
+          served = q.answers.served;
+          held_up = λ why e. absurd (never_pending r why q.answers.answers e);
+          awaited = λ pends. let bad : true ≡ false = sym pends ∙ q.answers.settled in cc;
+          short = λ x. q.answers.short;
+          starved = λ x. q.answers.starved;
+        }) q.answers.ages
         (q.answers.waits ∙ ap (waits_through ys) (begun_waits m b y xs rep p) ∙ sym (waits (waits_through ys b.waits) c.life))
 
     module _ (tid : ℕ) (waited : Waited w e r tid) where
@@ -131,23 +146,46 @@ module _ (plain : Bool) (w : World) (e : Event) (n : ℕ) (r : Answer) (v : Worl
       waits_are : (a : Aim) (f : ℕ → Waiting) (l : FrameLife) → aim_at w y.life pid addr what ≡ Some a → waits_of_line w e r b f l ≡ changed ◌==◌ f tid (cond (is_pending_read r) (awaited (Some a) l) Idle)
       waits_are a f l is =
           waited.some (record a { start = b.life }) b f l
-          (form.aim b.life ∙ aim-start (place_at pid (page_of addr)) (is_write what) y.life b.life (need_at w pid.0 addr what) a is)
+          (form.aim b.life ∙ aim-start (place_at pid (page_of addr)) (is_write_attempt what) y.life b.life (need_at w pid.0 addr what) a is)
 
       -- an access of a thread that was made
       lined_made : (plain ≡ true → ⊥) → MadeBy (aim_at w y.life pid addr what) tid r y ys c → Lined w e n r v after b (xs ++ ys) c
       lined_made never q =
-          lined q.aimed q.is q.made (subst (λ (f : Bool). ReadFails f ys) (sym (not_read plain (is_failed r) (read_failed q.aimed.need after) q.fine)) q.read) (λ thread fails. let bad : true ≡ false = sym fails ∙ q.fine in cc) q.valid (λ pends. let bad : true ≡ false = sym pends ∙ q.settled in cc) (λ x. absurd (never x)) q.ages
+          lined q.aimed q.is (record {
+            made = q.made;
+            read = subst (λ (f : Bool). ReadFails f ys) (sym (not_read plain (is_failed r) (read_failed q.aimed.need after) q.fine)) q.read;
+            still = λ thread fails. let bad : true ≡ false = sym fails ∙ q.fine in cc;
+            answers = answers_some r q.answers;
+            at_once = λ x. absurd (never x);
+            served = q.served;
+            held_up = λ why e. absurd (never_pending r why q.answers e);
+            awaited = λ pends. let bad : true ≡ false = sym pends ∙ q.settled in cc;
+            short = λ x. absurd (never x);
+            starved = λ x. absurd (never x);
+          }) q.ages
           (q.waits
           ∙ ap (λ (f : ℕ → Waiting). changed ◌==◌ (waits_through ys f) tid Idle) (begun_waits m b y xs rep p)
           ∙ (λ i. changed ◌==◌ (waits_through ys b.waits) tid (cond (sym q.settled i) (awaited (Some q.aimed) c.life) Idle))
           ∙ sym (waits_are q.aimed (waits_through ys b.waits) c.life q.is))
 
       -- one whose read failed while it waited: it makes no move, and its wait is forgotten
-      lined_failed : (plain ≡ true → ⊥) → is_had r ≡ false → is_pending_read r ≡ false → (a : Aim) → aim_at w y.life pid addr what ≡ Some a → Forgets tid y ys c → Lined w e n r v after b (xs ++ ys) c
-      lined_failed never lost settled a is q =
+      lined_failed : (plain ≡ true → ⊥) → is_failed r ≡ true → is_access_served r ≡ false → is_pending_read r ≡ false → (a : Aim) → aim_at w y.life pid addr what ≡ Some a → Forgets tid y ys c → Lined w e n r v after b (xs ++ ys) c
+      lined_failed never failed lost settled a is q =
           let ages : c.ages ≡ y.ages = ap (λ (x : Behind). x.ages) q.same in
           let waits : c.waits ≡ changed ◌==◌ y.waits tid Idle = ap (λ (x : Behind). x.waits) q.same in
-          lined a is (subst (λ t. AccessMoves a y t) (sym q.none) (no_moves a y)) (subst (λ t. ReadFails (plain && is_failed r && read_failed a.need after) t) (sym q.none) (never_read plain (is_failed r) (read_failed a.need after) never)) (λ thread fails. q.none) (λ had. let bad : true ≡ false = sym had ∙ lost in cc) (λ pends. let bad : true ≡ false = sym pends ∙ settled in cc) (λ x. absurd (never x))
+          let answers : (is_access_served r || is_failed r) ≡ true = or_right (is_access_served r) (is_failed r) failed in
+          lined a is (record {
+            made = subst (λ t. AccessMoves a y t) (sym q.none) (no_moves a y);
+            read = subst (λ t. ReadFails (plain && is_failed r && read_failed a.need after) t) (sym q.none) (never_read plain (is_failed r) (read_failed a.need after) never);
+            still = λ thread fails. q.none;
+            answers = answers_some r answers;
+            at_once = λ x. absurd (never x);
+            served = λ had. let bad : true ≡ false = sym had ∙ lost in cc;
+            held_up = λ why e. absurd (never_pending r why answers e);
+            awaited = λ pends. let bad : true ≡ false = sym pends ∙ settled in cc;
+            short = λ x. absurd (never x);
+            starved = λ x. absurd (never x);
+          })
           (ages ∙ ap (λ t. ages_through t y.ages) (sym q.none) ∙ (λ i. λ x. cond (sym lost i) (changed same_place (ages_through ys y.ages) a.place 0 x) (ages_through ys y.ages x)))
           (waits
           ∙ ap (λ (f : ℕ → Waiting). changed ◌==◌ f tid Idle) (begun_waits m b y xs rep p ∙ ap (λ t. waits_through t b.waits) (sym q.none))
@@ -160,6 +198,11 @@ begun-awaits why.Read a l (held.Frame f) = refl
 begun-awaits why.Read a l _ = refl
 begun-awaits _ a l h = refl
 
+pends_alike : (x y : Why) → answer.Pending x ≡ answer.Pending y → start.Pending x ≡ start.Pending y
+pends_alike x y e =
+    let same : x ≡ y = cc in
+    ap (λ (w : Why). start.Pending w) same
+
 reads : (x : Why) → is_pending_read (answer.Pending x) ≡ true → x ≡ why.Read
 reads why.Read e = refl
 reads why.Full e = cc
@@ -169,7 +212,18 @@ module _ (w : World) (e : Event) (n : ℕ) (why : Why) (v : World) (after : Repo
   -- an access of a thread that has to wait
   lined_waits : (b y c : Behind) (xs ys : List Move) → Replays xs b.life y.life → OneMove (move.At n (kind_of_line w e (answer.Pending why))) b xs y → WaitsBy (aim_at w y.life pid addr what) tid why after y ys c → Lined w e n (answer.Pending why) v after b (xs ++ ys) c
   lined_waits b y c xs ys rep p q =
-      lined false w e n (answer.Pending why) v after pid addr what form b y c xs ys rep p q.aimed q.is q.starts.made q.starts.read (λ thread fails. cc) (λ had. cc) (λ pends. q.awaited (reads why pends)) (λ plain. cc) q.starts.ages
+      lined false w e n (answer.Pending why) v after pid addr what form b y c xs ys rep p q.aimed q.is (record {
+        made = q.starts.made;
+        read = q.starts.read;
+        still = λ thread fails. cc;
+        answers = refl;
+        at_once = λ plain. cc;
+        served = λ had. cc;
+        held_up = λ x e. q.starts.held_up x (pends_alike why x e);
+        awaited = λ pends. q.awaited (reads why pends);
+        short = λ plain. cc;
+        starved = λ plain. cc;
+      }) q.starts.ages
       (q.starts.waits
       ∙ ap (λ (f : ℕ → Waiting). changed ◌==◌ (waits_through ys f) tid (wait_begun (start.Pending why) (c.life.stands q.aimed.need.key))) (begun_waits (move.At n (kind_of_line w e (answer.Pending why))) b y xs rep p)
       ∙ ap (λ (x : Waiting). changed ◌==◌ (waits_through ys b.waits) tid x) (begun-awaits why q.aimed c.life (c.life.stands q.aimed.need.key))
@@ -210,7 +264,8 @@ made_joins aim tid r = record {
         made = p.made;
         read = p.read;
         fine = p.fine;
-        valid = p.valid;
+        answers = p.answers;
+        served = p.served;
         ages = p.ages;
         waits = ap (λ (f : ℕ → Waiting). changed ◌==◌ f tid Idle) p.waits ∙ twice ◌==◌ (waits_through xs b.waits) tid Idle Idle;
         settled = p.settled;
@@ -247,14 +302,14 @@ module _ (u : Bool) (w : World) (e : Event) (n : ℕ) (v : World) (s m z : Store
       p (passes_as u _ (λ x ms d. WaitsBy (aim_at w x.life pid addr what) tid why z.report x ms d) m z y c (λ ms rep a. a) q)
 
   -- and one whose read failed while it waited
-  pub failed_line : (r : Answer) (pid : Pid) (addr : ℕ) (what : Attempt) (tid : ℕ) → IsAccess false w e r v z.report pid addr what → Waited w e r tid → is_had r ≡ false → is_pending_read r ≡ false → ((l : FrameLife) → is_some (aim_at w l pid addr what) ≡ true) → begins r
+  pub failed_line : (r : Answer) (pid : Pid) (addr : ℕ) (what : Attempt) (tid : ℕ) → IsAccess false w e r v z.report pid addr what → Waited w e r tid → is_failed r ≡ true → is_access_served r ≡ false → is_pending_read r ≡ false → ((l : FrameLife) → is_some (aim_at w l pid addr what) ≡ true) → begins r
       → PassesIn u (Forgets tid) m z y c → PassesIn u (Lined w e n r v z.report) s z b c
-  failed_line r pid addr what tid form waited lost settled permitted p q =
+  failed_line r pid addr what tid form waited failed lost settled permitted p q =
       passes_then u (OneMove (move.At n (kind_of_line w e r))) (Forgets tid) (Lined w e n r v z.report) s m z b y c
       (record {
         join = λ b y c xs ys rep p q.
             let o = some_found (aim_at w y.life pid addr what) (permitted y.life) in
-            lined_failed false w e n r v z.report pid addr what form b y c xs ys rep p tid waited (λ bad. cc) lost settled o.0 o.1 q;
+            lined_failed false w e n r v z.report pid addr what form b y c xs ys rep p tid waited (λ bad. cc) failed lost settled o.0 o.1 q;
       }) p q
 
   -- and no access, but a wait that is forgotten

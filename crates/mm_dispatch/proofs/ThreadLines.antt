@@ -9,7 +9,8 @@ use Rattle.mm_world.specs.{process_with}
 use Rattle.mm_world.specs.World.{World}
 use Rattle.mm_world.specs.Report.{Report}
 use Rattle.mm_dispatch.proofs.With.{process-with}
-use Rattle.mm_store.specs.{StoreOf, Served, SomeFailed, changed, Aim, Forgets, OneMove, Ghosts as PageStoreGhosts}
+use Rattle.mm_store.specs.{StoreOf, Served, SomeFailed, Aim, Forgets, OneMove, Ghosts as PageStoreGhosts}
+use Rattle.mm_move_rules.specs.{changed}
 use Rattle.mm_object_tables.specs.{key_bytes}
 use Rattle.mm_dispatch.specs.{IsFailure, Named, FlushServed, FailedBefore, Refuses, Waits, AccessMade, Permitted, Stepped, KeepsTables, LineBegins}
 use Rattle.mm_dispatch.specs.{Decided, BeginsThread, EndsAccess, TurnsAccess, MadeBy, WaitsBy, RefusedBy, FailedBy, aim_in, waited, AnswersLine}
@@ -416,6 +417,6 @@ module _ {G : Type 0} (p : PageStoreGhosts G) {n : ℕ} (tid : Tid) (t : Tables)
           resumed r after z
           (resume-failed p.unpaged n t (p.contents g) (p.contents x) (p.store g) (p.store x) starts.contents starts.begins tid k kept after (p.contents z) (p.store z) ends.keeps (line_is threaded.Failed h)
           (λ never. none_failed (p.store g) (p.store x) tid.0 starts.begins.report_is (idle never) bad) bad permitted (stood h.turned.2) (ended ∙ ap (λ (w : World). keep w tid.0 None) h.turned.3))
-          (failed_line p.unpaged before f n v (p.store g) (p.store y) (p.store z) (p.behind g) (p.behind y) (p.behind z) r owner at tries tid.0 (accesses_it r v (p.store z).report) (waits r) refl refl
+          (failed_line p.unpaged before f n v (p.store g) (p.store y) (p.store z) (p.behind g) (p.behind y) (p.behind z) r owner at tries tid.0 (accesses_it r v (p.store z).report) (waits r) refl refl refl
           (λ l. ap is_some (aim-needs before l owner at tries permitted.need (needed (Some permitted.need) permitted.needs)))
           (begun_still p.unpaged (move.At n (kind_of_line before f r)) (FailedBy (aim_over p t x owner at tries)) (p.store g) (p.store x) (p.store y) (p.behind g) (p.behind x) (p.behind y) (λ b ms c h. h.still) (begun r) h.passes) ends.passes)

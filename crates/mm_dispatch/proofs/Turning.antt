@@ -7,11 +7,12 @@ use Rattle.mm_move_rules.specs.{FrameLife, is_thread, Replays, Waiting, Idle, Wa
 use Rattle.mm_move_rules.specs.{is_wrote_move, takes_frame}
 use Rattle.mm_world.specs.{Page, BeingRead, Attempt, access, access_of, done, OutcomeOf, Tables, world_with, Need, pending, need_at, read_failed}
 use Rattle.mm_world.specs.Report.{Report}
-use Rattle.mm_store.specs.{StoreOf, changed, PassesIn, StandsIn, Aim, AccessMove, ReadFails, Starts, walk_from, place_at, waits_at_once, IsReady, started}
+use Rattle.mm_store.specs.{StoreOf, PassesIn, StandsIn, Aim, AccessMove, ReadFails, Starts, walk_from, place_at, waits_at_once, IsReady, started}
+use Rattle.mm_move_rules.specs.{changed}
 use Rattle.mm_store.specs.{Ghosts as PageStoreGhosts}
 use Rattle.mm_store.specs.Behind.{Behind}
 use Rattle.mm_store.proofs.{passes_then, waits_then, ages_then, accesses_then, fails_then}
-use Rattle.mm_line_moves.specs.{is_failed, place_had, is_write}
+use Rattle.mm_line_moves.specs.{is_failed, place_had, is_write_attempt}
 use Rattle.mm_dispatch.specs.{AnswersAccess, Answered, MadeBy, WaitsBy, Admits, Accessed, Refuses, AccessDone, ReadyFor, TurnsAccess, aim_for, row_need}
 use Rattle.mm_dispatch.specs.{IsFailure, TurnedBy, KeepsOver, PassesOver, aim_over, world_over}
 use Rattle.mm_dispatch.proofs.Begun.{passes_as, passes_still}
@@ -80,7 +81,8 @@ module _ (aim later : Option Aim) (a : Aim) (is : aim ≡ Some a) (l : FrameLife
         };
         read = fails_then false xs ys s.read (subst (λ (f : Bool). ReadFails (f && read_failed second.need after) ys) fine answers.read);
         fine = fine;
-        valid = answers.valid;
+        answers = answers.answers;
+        served = λ e. let at = answers.served e in record { valid = at.valid; soiled = at.soiled };
         ages =
             answers.ages
             ∙ ap (λ (f : Place → ℕ). place_had (Some a) r (ages_through ys f)) s.ages
@@ -147,17 +149,17 @@ module _ {G : Type 0} (p : PageStoreGhosts G) (what : Attempt) (tid : ℕ) (pid 
       needs : need_at w pid.0 addr what ≡ Some need
       needs = needs-of t (key_bytes (p.contents g)) pid addr what kind row is admitted
 
-      aims : aim_over p t g pid addr what ≡ Some (aim_for p place need (is_write what) g)
+      aims : aim_over p t g pid addr what ≡ Some (aim_for p place need (is_write_attempt what) g)
       aims = aim-needs w (p.behind g).life pid addr what need needs
 
     pub turns-waiting : Admits t pid.0 addr kind row → KeepsOver p after h → p.contents h ≡ p.contents g → p.store h ≡ started (p.store g) (p.store h) → (why : Why) → failed ≡ false → pending t.machine.depth need (p.store g).report (p.store h).report ≡ Some why
         → (why ≡ why_of.Read → (p.store h).report.whereabouts row.key ≡ Some BeingRead) → (p.unpaged ≡ true → ⊥) → p.loans h ≡ p.loans g
-        → PassesOver p (Starts (aim_for p place need (is_write what) g) tid (start.Pending why)) g h → TurnsAccess p what tid pid addr failed t g (threaded.Waiting why) after h
+        → PassesOver p (Starts (aim_for p place need (is_write_attempt what) g) tid (start.Pending why)) g h → TurnsAccess p what tid pid addr failed t g (threaded.Waiting why) after h
     turns-waiting admitted keeps contents begun why fine pends awaited paged loans passes = record {
       turned = (fine, record { need = need; needs = needs admitted; pends = pends; served = served_started (p.store g) (p.store h) begun }, (λ i. world_with (same i) (key_bytes (contents i))));
       keeps = keeps;
       rest = record { line = ap (λ (s : StoreOf). s.line) begun; unpaged = λ never x e. paged never; loans = loans };
-      passes = started_waits p.unpaged (aim_over p t g pid addr what) (aim_for p place need (is_write what) g) (aims admitted) tid why (p.store g) (p.store h) (p.behind g) (p.behind h)
+      passes = started_waits p.unpaged (aim_over p t g pid addr what) (aim_for p place need (is_write_attempt what) g) (aims admitted) tid why (p.store g) (p.store h) (p.behind g) (p.behind h)
           (λ reads. ap (p.store h).report.whereabouts (need-key kind row place) ∙ awaited reads) passes;
     }
 
@@ -172,6 +174,6 @@ module _ {G : Type 0} (p : PageStoreGhosts G) (what : Attempt) (tid : ℕ) (pid 
           turned = (r.fine, made);
           keeps = d.keeps;
           rest = record { line = d.line ∙ ap (λ (s : StoreOf). s.line) r.store; unpaged = λ never why is. cc; loans = loans ∙ r.loans };
-          passes = started_made (aim_over p t g pid addr what) (aim_over p after h pid addr what) (aim_for p place need (is_write what) g) (aims r.admitted) (p.behind h).life again tid (IsReady (p.store h) place need) r.ready a (not_failed w pid.0 addr what a (world_over p end k) made.outcome) (p.store k).report
-              p.unpaged (p.store g) (p.store h) (p.store k) (p.behind g) (p.behind h) (p.behind k) r.thread (r.passes (is_write what)) d.passes;
+          passes = started_made (aim_over p t g pid addr what) (aim_over p after h pid addr what) (aim_for p place need (is_write_attempt what) g) (aims r.admitted) (p.behind h).life again tid (IsReady (p.store h) place need) r.ready a (not_failed w pid.0 addr what a (world_over p end k) made.outcome) (p.store k).report
+              p.unpaged (p.store g) (p.store h) (p.store k) (p.behind g) (p.behind h) (p.behind k) r.thread (r.passes (is_write_attempt what)) d.passes;
         }

@@ -7,7 +7,9 @@ use Rattle.mm_world.specs.{Page, Attempt, Tables, Need, pending, access_fails, n
 use Rattle.mm_world.specs.{threads}
 use Rattle.mm_world.specs.World.{World}
 use Rattle.mm_world.specs.Report.{Report}
-use Rattle.mm_store.specs.{StoreOf, changed, same_place, Served, started, begun, waits_at_once, Forgets, PassesIn}
+use Rattle.mm_store.specs.{StoreOf, Served, started, begun, waits_at_once, Forgets, PassesIn}
+use Rattle.mm_move_rules.specs.{same_place}
+use Rattle.mm_move_rules.specs.{changed}
 use Rattle.mm_world.proofs.{tables_back, numbered_inside}
 use Rattle.mm_object_tables.specs.{MadeAtMost, FitsTables, key_at}
 use Rattle.mm_dispatch.specs.{waited, Accessed, IsHad, AccessMade, KeepsTables, is_of_process, waits_but, Forgot, EndsWaits, Decided, idle_but, IdlesBut}

@@ -49,7 +49,7 @@ module _ {G : Type 0} (p : PageStoreGhosts G) where
     pub may : MayAccess (p.store g) place need
 
   -- the row of the address permits a write, which copies, in a line that has called no device
-  pub record CanCopy (t : Tables) (pid : Pid) (addr : ℕ) (row : CommittedRow) (g : G) :
+  pub record MayCopyOnWrite (t : Tables) (pid : Pid) (addr : ℕ) (row : CommittedRow) (g : G) :
       Type 0 where
     pub fits : FitsOver p t g
     pub spaces : Spaces t

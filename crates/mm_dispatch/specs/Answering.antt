@@ -1,15 +1,16 @@
 -- The moves of an access, over a store that pages, as the definitions of a line ask for them.
 -- Profile, "Logs of moves".
-use Rattle.std.specs.Prelude.{◌≡◌, ◌&&◌, ℕ, true, false, List, Option, Some, None, count_by, ◌==◌}
+use Rattle.std.specs.Prelude.{◌≡◌, ◌&&◌, ◌||◌, ℕ, true, false, List, Option, Some, None, count_by, ◌==◌}
 use Rattle.mm_types.specs.{Answer, Why, Move, Key, Pid}
 use Rattle.mm_types.specs.declared.answers.Why.TheVariants as why_of
 use Rattle.mm_world.specs.{Page, Attempt, Tables, world_with, BeingRead, read_failed}
 use Rattle.mm_world.specs.Report.{Report}
-use Rattle.mm_move_rules.specs.{is_valid, Starved, Idle, waits_through, ages_through, walked_all, is_read_move}
-use Rattle.mm_store.specs.{changed, Aim, AccessMoves, ReadFails, Starts, walk_from, NoMove}
+use Rattle.mm_move_rules.specs.{Starved, Idle, waits_through, ages_through, walked_all, is_read_move}
+use Rattle.mm_store.specs.{Aim, AccessMoves, IsServed, ReadFails, Starts, is_shortage, walk_from, NoMove}
+use Rattle.mm_move_rules.specs.{changed}
 use Rattle.mm_store.specs.Behind.{Behind}
 use Rattle.mm_store.specs.declared.outcomes.Start.TheVariants as start
-use Rattle.mm_line_moves.specs.{aim_at, is_had, is_failed, is_pending_read, place_had}
+use Rattle.mm_line_moves.specs.{aim_at, is_access_served, is_failed, is_pending_read, place_had}
 use Rattle.mm_object_tables.specs.{key_bytes}
 use Rattle.mm_dispatch.specs.declared.threads.Threaded.{Threaded}
 use Rattle.mm_dispatch.specs.declared.threads.Threaded.TheVariants as threaded
@@ -20,14 +21,18 @@ aim_in t contents b pid addr what = aim_at (world_with t (key_bytes contents)) b
 
 -- ---- a plain access
 
--- an access of this aim was answered: where it was had, its place is valid and new; where it failed
--- because no frame was found, none was to be found, else its last move is a read that failed
+-- an access of this aim was answered at once: where it was served, its place is valid and new, and
+-- after a write soiled; where it failed because no frame was found, one was wanted and none was to be
+-- found, else its last move is a read that failed
 pub record AnswersAccess (a : Aim) (r : Answer) (after : Report) (b : Behind) (moves : List Move)
     (c : Behind) : Type 0 where
   pub made : AccessMoves a b moves
   pub read : ReadFails (is_failed r && read_failed a.need after) moves
-  pub valid : is_had r ≡ true → is_valid c.life a.place ≡ true
-  pub starved : is_failed r ≡ true → after.last_failed_read ≡ None →
+  pub answers : (is_access_served r || is_failed r) ≡ true
+  pub served : is_access_served r ≡ true → IsServed a c.life
+  pub short : is_failed r ≡ true → read_failed a.need after ≡ false →
+      is_shortage a.need a.place c.life ≡ true
+  pub starved : is_failed r ≡ true → read_failed a.need after ≡ false →
       Starved (c.life.valid a.place) (walked_all (walk_from b) moves)
   pub ages : c.ages ≡ place_had (Some a) r (ages_through moves b.ages)
   pub waits : c.waits ≡ waits_through moves b.waits
@@ -51,7 +56,8 @@ pub record MadeBy (aim : Option Aim) (tid : ℕ) (r : Answer) (b : Behind) (move
   pub made : AccessMoves aimed b moves
   pub read : ReadFails false moves
   pub fine : is_failed r ≡ false
-  pub valid : is_had r ≡ true → is_valid c.life aimed.place ≡ true
+  pub answers : (is_access_served r || is_failed r) ≡ true
+  pub served : is_access_served r ≡ true → IsServed aimed c.life
   pub ages : c.ages ≡ place_had (Some aimed) r (ages_through moves b.ages)
   pub waits : c.waits ≡ changed ◌==◌ (waits_through moves b.waits) tid Idle
   pub settled : is_pending_read r ≡ false

@@ -5,11 +5,7 @@ use Rattle.mm_types.specs.{Event}
 use Rattle.mm_types.specs.declared.events.Event.TheVariants as line
 use Rattle.mm_world.specs.{WorldOf, grow, most_processes, new_file, create, create_file, open_section, stack, map_view, is_success}
 use Rattle.mm_calls.specs.{allocates_anew, marks_anew, grows}
-
--- the line that tells the machine, which comes first and never again
-abbrev pub is_machine : Event → Bool
-is_machine (line.Machine machine) = true
-is_machine _ = false
+use Rattle.mm_script.specs.{is_machine}
 
 -- a line that makes an access itself, which no thread keeps
 abbrev pub is_access_line : Event → Bool

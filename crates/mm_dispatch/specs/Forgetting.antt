@@ -6,7 +6,8 @@ use Rattle.mm_types.specs.declared.answers.Wait.TheVariants as wait
 use Rattle.mm_types.specs.declared.events.Event.TheVariants as event
 use Rattle.mm_world.specs.{WorldOf, KeptOf, kept_by, ends_none, Tables}
 use Rattle.mm_world.specs.Report.{Report}
-use Rattle.mm_store.specs.{StoreOf, changed}
+use Rattle.mm_store.specs.{StoreOf}
+use Rattle.mm_move_rules.specs.{changed}
 
 -- the access is of this process
 abbrev pub is_of_process : ℕ → Option KeptOf → Bool

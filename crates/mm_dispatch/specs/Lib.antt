@@ -16,7 +16,7 @@ pub mod AccessPromises
 pub use Accessing.{Accessed, Admits, IsHad, Marks, OwnsPage, Refuses}
 pub use Stepping.{Stepped, asks_frames}
 pub use Deciding.{Decided, Devices, Idle, KeepsTables, LineBegins, is_plain_kind}
-pub use Built.{is_access_line, is_call_line, is_machine, is_paging_line, takes_memory}
+pub use Built.{is_access_line, is_call_line, is_paging_line, takes_memory}
 pub use Shown.{file_blocks, file_device, line_number, loans, paging_device, report, world}
 pub use Shown.{world_behind}
 pub use Serving.{AskedBeside, FailedBefore, FileWrites, FlushHolds, FlushServed, HasFailed}
@@ -33,7 +33,7 @@ pub use Over.{PassesOver, aim_over, world_over}
 pub use Promise.{Breaks, Decides, NotesMoves, Scene, StaysSound, ToldBeside, scene, scene_of}
 pub use LinePromises.{AnswersLine, CanDecide, HaltsLine, IsNext, MakesLine, StartsCall, StartsLine}
 pub use LinePromises.{StartsOn, StartsRelease, TakesLine}
-pub use AccessPromises.{AccessDone, AccessEnded, BeginsThread, CanAccess, CanCopy, CanReach}
+pub use AccessPromises.{AccessDone, AccessEnded, BeginsThread, CanAccess, MayCopyOnWrite, CanReach}
 pub use AccessPromises.{CanTurn, Copied, EndsAccess, EntersLine, HasOwn, LieInPage, ReadyFor}
 pub use AccessPromises.{Touched, TurnsAccess, access_line, aim_for, row_need}
 pub use declared.threads.Threaded.{Threaded}

@@ -9,7 +9,8 @@ use Rattle.mm_world.specs.{Tables, blank, process_of}
 use Rattle.mm_world.specs.WellFormed.{WellFormed}
 use Rattle.mm_store.specs.{OneMove, Ghosts as PageStoreGhosts}
 use Rattle.mm_object_tables.specs.{IsTidy}
-use Rattle.mm_dispatch.specs.Built.{is_machine, takes_memory}
+use Rattle.mm_dispatch.specs.Built.{takes_memory}
+use Rattle.mm_script.specs.{is_machine}
 use Rattle.mm_dispatch.specs.Deciding.{LineBegins}
 use Rattle.mm_dispatch.specs.Forgetting.{EndsWaits}
 use Rattle.mm_dispatch.specs.Over.{AskedBesideOver, DecidedOver, HaltedOver, IdleOver, KeepsOver, MarkedOver}

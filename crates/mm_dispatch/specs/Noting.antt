@@ -8,7 +8,8 @@ use Rattle.mm_move_rules.specs.{Grew, AreMoves, spelled_moves, Replays, Waiting,
 use Rattle.mm_world.specs.{Page, kept_by, Tables, world_with}
 use Rattle.mm_world.specs.World.{World}
 use Rattle.mm_world.specs.Report.{Report}
-use Rattle.mm_store.specs.{StoreOf, changed, told_of, told_through, Makes, AllTurn}
+use Rattle.mm_store.specs.{StoreOf, told_of, told_through, Makes, AllTurn}
+use Rattle.mm_move_rules.specs.{changed}
 use Rattle.mm_store.specs.Behind.{Behind}
 use Rattle.mm_line_moves.specs.{kind_of_line, Does, Traffic, asks_beside, with_line, ages_of_line, waits_of_line}
 use Rattle.mm_object_tables.specs.{key_bytes}

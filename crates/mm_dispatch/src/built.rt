@@ -1,5 +1,5 @@
 ghost use Rattle.std.specs.Prelude.{◌≡◌};
-ghost use Rattle.mm_dispatch.specs.{is_machine};
+ghost use Rattle.mm_script.specs.{is_machine};
 
 use mm_types::Event;
 

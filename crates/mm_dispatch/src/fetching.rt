@@ -1,10 +1,11 @@
 ghost use Rattle.std.specs.Prelude.{◌≡◌, ◌≤◌, ◌%◌, true, false, Some, None, IfOk, OnOk, OnErr, length, take, drop};
 ghost use Rattle.mm_types.specs.{page_of, page_size};
 ghost use Rattle.mm_world.specs.{same_key, private_key, written};
-ghost use Rattle.mm_store.specs.{changed, IsBegun, eased, place_at, touch, copying, IsReady};
+ghost use Rattle.mm_store.specs.{IsBegun, eased, place_at, touch, copying, IsReady};
+ghost use Rattle.mm_move_rules.specs.{changed};
 ghost use Rattle.mm_store.specs.Reports.{Ends};
 ghost use Rattle.mm_object_tables.specs.{key_bytes};
-ghost use Rattle.mm_dispatch.specs.{LieInPage, CanReach, CanCopy, HasOwn, OwnsPage, Touched, Copied};
+ghost use Rattle.mm_dispatch.specs.{LieInPage, CanReach, MayCopyOnWrite, HasOwn, OwnsPage, Touched, Copied};
 
 use mm_object_tables::{CommittedRow, Tables};
 use mm_store::PageStore;
@@ -118,7 +119,7 @@ fn copy<G: PageStore>(
     addr: u32,
     row: CommittedRow,
 ) -> Result<(), PageFault>
-    requires can { CanCopy G.PageStore t.old pid addr row g.old }
+    requires can { MayCopyOnWrite G.PageStore t.old pid addr row g.old }
     ensures bytes { OnOk result (G.contents g.new ≡
         changed same_key (G.contents g.old) (private_key pid.0 (page_of addr))
         (G.contents g.old row.key)) }
@@ -149,7 +150,7 @@ pub(crate) fn put_copy<G: PageStore>(
     row: CommittedRow,
     bytes: &[u8],
 ) -> Result<(), PageFault>
-    requires can { CanCopy G.PageStore t.old pid addr row g.old }
+    requires can { MayCopyOnWrite G.PageStore t.old pid addr row g.old }
     requires lie { LieInPage addr (length bytes.now) }
     ensures written { OnOk result (G.contents g.new ≡
         changed same_key

@@ -3,7 +3,8 @@ ghost use Rattle.mm_world.specs.{filled, first_world, charge, limit};
 ghost use Rattle.mm_store.specs.{IsNew};
 ghost use Rattle.mm_script.specs.{IsWellFormed};
 ghost use Rattle.mm_object_tables.specs.{FitsTables, MadeAtMost};
-ghost use Rattle.mm_dispatch.specs.Built.{is_machine, takes_memory};
+ghost use Rattle.mm_dispatch.specs.Built.{takes_memory};
+ghost use Rattle.mm_script.specs.{is_machine};
 
 use crate::deciding::decide;
 use mm_object_tables::Tables;

@@ -5,7 +5,7 @@ use Rattle.mm_types.proofs.{append_nil}
 use Rattle.mm_move_rules.specs.{FrameLife, unstarted, after_move}
 use Rattle.mm_move_classes.specs.{MarksOf, no_marks, marks_after, next_of, Class}
 use Rattle.mm_csv.specs.{head_left}
-use Rattle.mm_log_walk.specs.{pending, class_then, move_of, Pending, Beside}
+use Rattle.mm_log_walk.specs.{pending_class, class_then, move_of, Pending, Beside}
 use Rattle.mm_log_walk.proofs.{class_known}
 use Rattle.mm_transcripts.specs.{AgesOf, no_ages_known, ages_then}
 use Rattle.mm_events.specs.{class_row, event_head, events_from, events_still, event_noted, waiting_event_row, Noted}
@@ -14,7 +14,7 @@ module _ (b : Beside) (begun : Bool) (l : FrameLife) (v : MarksOf) (p : Option P
   -- its row waits now, and that of the move before it was written
   row_waits : (text : Text) (ms : List Move)
       → ((text ++ head_left begun event_head) ++ waiting_event_row x (class_then p (Some m)) l)
-      ++ events_still b true (marks_after v m) (Some (pending l v (move_of p) m)) (Some (event_noted b a l m)) (ages_then b m a) (after_move l m) ms
+      ++ events_still b true (marks_after v m) (Some (pending_class l v (move_of p) m)) (Some (event_noted b a l m)) (ages_then b m a) (after_move l m) ms
       ≡ text ++ events_still b begun v p x a l (m ∷ ms)
   row_waits text ms =
       let h : Text = head_left begun event_head in
@@ -26,7 +26,7 @@ module _ (b : Beside) (begun : Bool) (l : FrameLife) (v : MarksOf) (p : Option P
 
   pub row_taken : (v' : MarksOf) (p' : Option Pending) (x' : Option Noted) (a' : AgesOf) (text text1 text2 : Text)
       → text1 ≡ text ++ head_left begun event_head → text2 ≡ text1 ++ waiting_event_row x (class_then p (Some m)) l
-      → v' ≡ marks_after v m → p' ≡ Some (pending l v (move_of p) m) → x' ≡ Some (event_noted b a l m) → a' ≡ ages_then b m a → (ms : List Move)
+      → v' ≡ marks_after v m → p' ≡ Some (pending_class l v (move_of p) m) → x' ≡ Some (event_noted b a l m) → a' ≡ ages_then b m a → (ms : List Move)
       → text2 ++ events_still b true v' p' x' a' (after_move l m) ms ≡ text ++ events_still b begun v p x a l (m ∷ ms)
   row_taken v' p' x' a' text text1 text2 e1 e2 ev ep ex ea ms =
       let l' : FrameLife = after_move l m in
@@ -35,8 +35,8 @@ module _ (b : Beside) (begun : Bool) (l : FrameLife) (v : MarksOf) (p : Option P
       ap (λ t. t ++ events_still b true v' p' x' a' l' ms) (e2 ∙ ap (λ t. t ++ w) e1)
       ∙ ap (λ (u : MarksOf). told ++ events_still b true u p' x' a' l' ms) ev
       ∙ ap (λ (q : Option Pending). told ++ events_still b true (marks_after v m) q x' a' l' ms) ep
-      ∙ ap (λ (y : Option Noted). told ++ events_still b true (marks_after v m) (Some (pending l v (move_of p) m)) y a' l' ms) ex
-      ∙ ap (λ (o : AgesOf). told ++ events_still b true (marks_after v m) (Some (pending l v (move_of p) m)) (Some (event_noted b a l m)) o l' ms) ea
+      ∙ ap (λ (y : Option Noted). told ++ events_still b true (marks_after v m) (Some (pending_class l v (move_of p) m)) y a' l' ms) ex
+      ∙ ap (λ (o : AgesOf). told ++ events_still b true (marks_after v m) (Some (pending_class l v (move_of p) m)) (Some (event_noted b a l m)) o l' ms) ea
       ∙ row_waits text ms
 
 -- no move comes

@@ -9,7 +9,8 @@ use Rattle.mm_types.specs.{IsMachine, Frame, Key, Place, Record, Backing}
 use Rattle.mm_types.specs.declared.frames.Backing.TheVariants as backing
 use Rattle.mm_move_rules.specs.{record_at, blank, has_request, slot_of, is_idle, is_on, is_empty, FrameLife, is_short, owner_is, can_be_written}
 use Rattle.mm_move_rules.specs.{is_unpinned, may_go}
-use Rattle.mm_move_laws.specs.{one_if, tally, times, is_frame, is_backing_for, is_kept, sight, Stand, sum_to, has_paged, has_slot}
+use Rattle.mm_move_laws.specs.{one_if, tally, times, is_backing_for, is_kept, sight, Stand, sum_to, has_paged, has_slot}
+use Rattle.mm_move_rules.specs.{is_frame}
 use Rattle.mm_move_laws.specs.Sound.{Sound}
 use Rattle.mm_move_laws.proofs.{tally-more, some_owner, one_most, one_within, sum-most, sum-plus, sum-ones, sum-frame, sum-cells, none_counted}
 use Rattle.mm_move_laws.proofs.{free_and_taken, counts_homes, requests_counted, three_hold, three_parts}

@@ -99,6 +99,19 @@ background-image: repeating-linear-gradient(45deg, #0000 0 3px, var(--guard) 3px
 #spaces h3 { color: var(--ink); }\n\
 #spaces td:not(:nth-child(3)) { white-space: nowrap; }\n\
 #spaces td:nth-child(3) { min-width: 140px; }\n\
+@media (max-width: 640px) {\n\
+#spaces :is(table, tbody) { display: block; }\n\
+#spaces :is(thead, td:empty) { display: none; }\n\
+#spaces tr { display: flex; flex-wrap: wrap; gap: 0 10px; padding: 3px 0; }\n\
+#spaces tr { border-bottom: 1px solid var(--rule); }\n\
+#spaces td:nth-child(n) { min-width: 0; padding: 0; border: 0; }\n\
+#spaces td:last-child { flex-basis: 100%; padding: 0; }\n\
+#spaces td:nth-child(n + 5):nth-child(-n + 8)::before { content: '\\25a0\\a0'; }\n\
+#spaces td:nth-child(5)::before { color: var(--state-4); }\n\
+#spaces td:nth-child(6)::before { color: var(--state-2); }\n\
+#spaces td:nth-child(7)::before { color: var(--state-5); }\n\
+#spaces td:nth-child(8)::before { color: var(--untouched); }\n\
+}\n\
 #spaces, #sections, #slots, #frames, #faults { content-visibility: auto; }\n\
 #spaces, #sections, #slots, #frames, #faults { contain-intrinsic-size: auto 400px; }\n\
 i { display: inline-block; width: 12px; height: 12px; margin: 0 4px -1px 0; }\n\
@@ -1249,13 +1262,16 @@ if (pictures.size > MOST_PICTURES) pictures.clear();\n\
 pictures.set(id, pool(axis, tints, wide, tall, rowsAt, eachStretch));\n\
 }\n\
 pen.context.imageSmoothingEnabled = false;\n\
-pen.context.drawImage(pictures.get(id), axis.left, top, axis.right - axis.left, high);\n\
+const { canvas, seen } = pictures.get(id);\n\
+pen.context.drawImage(canvas, axis.left, top, axis.right - axis.left, high);\n\
+return seen;\n\
 }\n\
 function pool(axis, tints, wide, tall, rowsAt, eachStretch) {\n\
 const colours = tints.map((name) => [...channels(name), 255]);\n\
 const pixels = wide / axis.count;\n\
 const image = new ImageData(wide, tall);\n\
 const weights = tints.map(() => new Float32Array(wide));\n\
+const seen = new Set();\n\
 function weigh(tint, first, next) {\n\
 const weight = weights[tint];\n\
 const [from, to] = [(first - axis.first) * pixels, (next - axis.first) * pixels];\n\
@@ -1268,7 +1284,9 @@ let best = 0;\n\
 for (let tint = 1; tint < tints.length; tint++) {\n\
 if (weights[tint][at] > weights[best][at]) best = tint;\n\
 }\n\
-return weights[best][at] ? colours[best] : [0, 0, 0, 0];\n\
+if (!weights[best][at]) return [0, 0, 0, 0];\n\
+seen.add(best);\n\
+return colours[best];\n\
 }\n\
 for (let y = 0; y < tall; y++) {\n\
 for (const weight of weights) weight.fill(0);\n\
@@ -1277,7 +1295,7 @@ for (let at = 0; at < wide; at++) image.data.set(heaviest(at), 4 * (y * wide + a
 }\n\
 const canvas = new OffscreenCanvas(wide, tall);\n\
 canvas.getContext('2d').putImageData(image, 0, 0);\n\
-return canvas;\n\
+return { canvas, seen };\n\
 }\n\
 const MOST_ROWS = 130;\n\
 const MOST_CHOSEN_ROWS = 64;\n\
@@ -1316,13 +1334,18 @@ const unused = data.frames.length - all.length;\n\
 const note = unused ? NOTE_HEIGHT : 0;\n\
 const paints = makePaints(data.processes);\n\
 let [pen, axis, rows, place] = [null, null, [], { top: 0, high: 0 }];\n\
+let seen = new Set();\n\
 function legend() {\n\
 const { tints, words } = paints[view.paint];\n\
-const item = (text, at) =>\n\
-`<li><i class=\"${view.paint}-${at}\" style=\"background-color: var(${tints[at]})\"></i>${text}`;\n\
-const hatched = '<li><i class=\"state-5\"></i>Hatched: a request holds it';\n\
-const last = '<li><i class=\"underline\"></i>Underlined: changed';\n\
-return words.map(item).join('') + last + (view.paint === 'state' ? '' : hatched);\n\
+const item = (look, text, style = '') =>\n\
+`<li><i class=\"${look}\" style=\"background-color: ${style}\"></i>${text}`;\n\
+const states = words.map((text, at) =>\n\
+seen.has(at) ? item(`${view.paint}-${at}`, text, `var(${tints[at]})`) : '',\n\
+);\n\
+const isHatched = seen.has('hatched') && view.paint !== 'state';\n\
+if (seen.has('underlined')) states.push(item('underline', 'Underlined: changed'));\n\
+if (isHatched) states.push(item('state-5', 'Hatched: a request holds it'));\n\
+return states.join('');\n\
 }\n\
 const isFollowed = (frame) => view.followed?.thing === frame;\n\
 const changesHere = (frame) => isFollowed(frame) || frame.after(axis.last).line > axis.first;\n\
@@ -1345,6 +1368,7 @@ pen = given;\n\
 const high = whole - note;\n\
 const row = high / rows.length;\n\
 place = { top, high };\n\
+seen = new Set();\n\
 if (axis.column >= 1 && row >= 3) {\n\
 rows.forEach((frame, at) => drawRow(frame, top + at * row, row > 6 ? row - 1 : row));\n\
 } else drawAll(top, high);\n\
@@ -1389,9 +1413,13 @@ const tint = tints[of(stands)];\n\
 const left = axis.x(from);\n\
 const wide = axis.x(to) - left - (axis.column > 6 ? 1 : 0);\n\
 pen.box(tint, left, top, wide, high);\n\
-if (state >= READING && high > 5) pen.hatch(left, top, wide, high, state === READING);\n\
+seen.add(of(stands));\n\
+const isHatched = state >= READING && high > 5;\n\
+if (isHatched) pen.hatch(left, top, wide, high, state === READING);\n\
+if (isHatched) seen.add('hatched');\n\
 const isUnderlined = isChanged && state === ACTIVE && high > 8;\n\
 if (isUnderlined) pen.box(inkOn(tint), left, top + high - 3, wide, 2, 0.55);\n\
+if (isUnderlined) seen.add('underlined');\n\
 if (owner && high >= 12) drawName(stands, tint, left, top, wide, high);\n\
 });\n\
 }\n\
@@ -1406,7 +1434,7 @@ function drawAll(top, high) {\n\
 const { tints, of } = paints[view.paint];\n\
 const tall = clamp(Math.round(high * devicePixelRatio), 1, all.length);\n\
 const edge = (y) => Math.floor((y * all.length) / tall);\n\
-drawPooled(pen, axis, {\n\
+seen = drawPooled(pen, axis, {\n\
 ...{ name: 'frames ' + view.paint, tints, top, high, tall },\n\
 rowsAt: (y) => all.slice(edge(y), edge(y + 1)),\n\
 eachStretch: (frame, weigh) =>\n\
@@ -1443,9 +1471,10 @@ return [2, 3, 4, 5, 6, 6, 7, 5][at] ?? 0;\n\
 },\n\
 },\n\
 };\n\
-function makeStripChart({ view, space: { spaces, isObserved }, sections, pages, shown }) {\n\
+function makeStripChart({ view, space: { spaces }, sections, pages, shown }) {\n\
 const nameAt = (pid, base, line) => nameOfUse(sections.useOf(pid, base, line));\n\
 let [pen, axis, strips] = [null, null, []];\n\
+let seen = new Set();\n\
 function rowsIn(space) {\n\
 const runs = [];\n\
 const isSeen = ({ since, until }) => since <= axis.last && until > axis.first;\n\
@@ -1483,8 +1512,9 @@ const unit = roomy * units <= budget ? roomy : 0;\n\
 const gap = unit ? (unit >= 8 ? 6 : 3) : Math.min(3, (0.2 * budget) / gaps);\n\
 return { gap, unit: unit || Math.max(0.02, (budget - gap * gaps) / units) };\n\
 }\n\
-function layOut(seen) {\n\
-axis = seen;\n\
+function layOut(given) {\n\
+axis = given;\n\
+seen = new Set();\n\
 const pids = shown();\n\
 strips = pids.flatMap((pid) => {\n\
 const space = spaces[pid];\n\
@@ -1530,6 +1560,7 @@ const stretches = [];\n\
 pages.eachStretch(space, page, axis, (code, from, to) => {\n\
 const found = pages.decode(code);\n\
 const tint = tints[of(found)];\n\
+seen.add(of(found));\n\
 const last = stretches.at(-1);\n\
 const isAlike = last?.to === from && last.tint === tint && last.stand === found.stand;\n\
 if (isAlike && last.isCopied === found.isCopied) last.to = to;\n\
@@ -1546,7 +1577,9 @@ const box = { left, top, wide: axis.x(to) - left - (axis.column > 6 ? 1 : 0), hi
 pen.box(tint, left, top, box.wide, high);\n\
 if (kind === IS_RESERVED && high > 4) dotted(box, 1 / 2, '--soft', [1, 4]);\n\
 if (stand.protection & GUARD) pen.hatch(left, top, box.wide, high, true, '--guard');\n\
+if (stand.protection & GUARD) seen.add('guard');\n\
 if (isCopied) pen.box(inkOn(tint), left, top + high - 2, box.wide, 2, 0.75);\n\
+if (isCopied) seen.add('copied');\n\
 if (row.to - row.from > 1 && kind !== IS_RESERVED) {\n\
 for (const part of [1 / 3, 2 / 3]) dotted(box, part, '--back', DOTTED);\n\
 }\n\
@@ -1590,13 +1623,14 @@ const here = rows.slice(first, firstAt(rows, (row) => row.top >= below));\n\
 const step = Math.ceil(here.length / MOST_SAMPLES);\n\
 return here.filter((_, at) => at % step === 0);\n\
 }\n\
-drawPooled(pen, axis, {\n\
+const drawn = drawPooled(pen, axis, {\n\
 ...{ name: `${space.pid} ${view.tint}`, tints, top, high, tall, rowsAt },\n\
 eachStretch: ({ from: page }, weigh) =>\n\
 pages.eachStretch(space, page, axis, (code, from, to) =>\n\
 weigh(of(pages.decode(code)), from, to),\n\
 ),\n\
 });\n\
+drawn.forEach((at) => seen.add(at));\n\
 }\n\
 function pageAt(y) {\n\
 const strip = strips.find(({ top, high }) => y >= top && y < top + high);\n\
@@ -1618,12 +1652,10 @@ function legend() {\n\
 if (!strips.length) return '';\n\
 const { tints, words } = PAGE_PAINTS[view.tint];\n\
 const item = (text, at) =>\n\
-text && (isObserved || at > 1)\n\
-? `<li><i style=\"background: var(${tints[at]})\"></i>${text}`\n\
-: '';\n\
-const guard = '<li><i class=\"guard\"></i>Guard page';\n\
-const copied = '<li><i class=\"underline\"></i>\\u25c6 Copied page';\n\
-return words.map(item).join('') + (isObserved ? guard + copied : '');\n\
+text && seen.has(at) ? `<li><i style=\"background: var(${tints[at]})\"></i>${text}` : '';\n\
+const guard = seen.has('guard') ? '<li><i class=\"guard\"></i>Guard page' : '';\n\
+const copied = seen.has('copied') ? '<li><i class=\"underline\"></i>\\u25c6 Copied page' : '';\n\
+return words.map(item).join('') + guard + copied;\n\
 }\n\
 return { layOut, draw, pageAt, mark, legend, titleOf: ({ pid }) => `Process ${pid}` };\n\
 }\n\

@@ -1,5 +1,5 @@
 -- A plain access is a line: its `at`, and then the moves of one call of the store.
-use Rattle.std.proofs.Common.{◌≡◌, List, [], ◌∷◌, ◌++◌, ◌∙◌, subst}
+use Rattle.std.proofs.Common.{◌≡◌, List, [], subst}
 use Rattle.mm_types.specs.{Move}
 use Rattle.mm_move_rules.specs.{after_move, Walk, Through}
 use Rattle.mm_store.specs.Behind.{Behind}

@@ -1,5 +1,5 @@
 -- A line that takes pages away has one log: its moves are in rising order of rank, and which they are is told.
-use Rattle.std.proofs.Common.{◌≡◌, ◌≢◌, ◌≤◌, ◌<◌, ◌^◌, ◌*◌, ℕ, zero, suc, ◌+◌, ◌-◌, Bool, true, false, cond, List, [], ◌∷◌, Option, Some, None, refl, sym, ap, ◌∙◌, subst, inl, inr, arith, length, slice_get, not, option_map, unwrap_or}
+use Rattle.std.proofs.Common.{◌≡◌, ◌≤◌, ◌<◌, ◌^◌, ℕ, zero, suc, ◌+◌, Bool, true, false, cond, List, [], ◌∷◌, Option, Some, None, refl, sym, ap, ◌∙◌, subst, inl, inr, arith, length, slice_get, not, option_map, unwrap_or}
 use Rattle.std.proofs.lemmas.Bool.{eqb-true, cases_lt}
 use Rattle.std.proofs.lemmas.List.Quantifiers.{position-Some}
 use Rattle.std.specs.Prelude.{◌==◌, ◌&&◌, ◌||◌, position}
@@ -15,14 +15,14 @@ use Rattle.mm_move_rules.specs.{after_move, after_unmap_at, dropped_at, Replays}
 use Rattle.mm_world.specs.{Page, RegionOf, ProcessOf, SectionOf, numbered, pages_of, process_of, is_handle_to, is_view_of, uses, LaidOut}
 use Rattle.mm_world.specs.World.{World}
 use Rattle.mm_store.specs.{page_rank, or_else, last_rank, rank_behind, view_rank, handle_rank, section_rank, goes_with, leaving, Turned, AllTurn}
-use Rattle.mm_store.specs.{is_turn, rank_gone, ranks_gone, Rises, IsLowest, LowestFirst, Goes}
+use Rattle.mm_store.specs.{is_turn, rank_gone, ranks_gone, Rises, DropsLowest, LowestFirst, Goes}
 use Rattle.mm_store.specs.Leaving.{Leaving}
 use Rattle.mm_store.specs.Housekeeping.{Ends}
 use Rattle.mm_line_moves.specs.{StandsAlways}
 
 -- ---- what moves leave
 
-unmapped_stands : (o : Option Frame) (l : FrameLife) (p : Place) (k : Key) → (after_unmap_at o l p).stands k ≡ l.stands k
+pub unmapped_stands : (o : Option Frame) (l : FrameLife) (p : Place) (k : Key) → (after_unmap_at o l p).stands k ≡ l.stands k
 unmapped_stands None l p k = refl
 unmapped_stands (Some f) l p k = refl
 
@@ -30,7 +30,7 @@ unmapped_paging : (o : Option Frame) (l : FrameLife) (p : Place) (k : Key) → (
 unmapped_paging None l p k = refl
 unmapped_paging (Some f) l p k = refl
 
-unmapped_other : (o : Option Frame) (l : FrameLife) (p q : Place) → same_place q p ≡ false → (after_unmap_at o l p).valid q ≡ l.valid q
+pub unmapped_other : (o : Option Frame) (l : FrameLife) (p q : Place) → same_place q p ≡ false → (after_unmap_at o l p).valid q ≡ l.valid q
 unmapped_other None l p q e = refl
 unmapped_other (Some f) l p q e = ap (λ b. cond b None (l.valid q)) e
 
@@ -67,7 +67,7 @@ drop_paging : (l : FrameLife) (k : Key) → IsLegal (move.Drop k) l → l.paging
 drop_paging l k h =
     (parts (is_call l.kind || is_unbind l.kind) (l.paging k) (parts ((is_call l.kind || is_unbind l.kind) && l.paging k) (is_unmapped l (l.stands k)) h).0).1
 
-unmap_valid : (l : FrameLife) (p : Place) → IsLegal (move.Unmap p) l → l.valid p ≡ None → ⊥
+pub unmap_valid : (l : FrameLife) (p : Place) → IsLegal (move.Unmap p) l → l.valid p ≡ None → ⊥
 unmap_valid l p h e =
     let bad : false ≡ true = sym (ap (λ (o : Option Frame). unwrap_or (option_map (λ (f : Frame). may_unmap l p (record_at l.frames f.0)) o) false) e) ∙ h in cc
 
@@ -177,7 +177,7 @@ module _ (goes : Leaving) (pid from to : ℕ) (mine : (p : Place) → goes.place
 
   -- of two first moves of one rank each is the other
   one_move : (x y : Move) (l : FrameLife) → PagingLives l → is_turn (Ends goes from to) x ≡ true → is_turn (Ends goes from to) y ≡ true → IsLegal x l → IsLegal y l
-      → IsLowest l x → IsLowest l y → from ≤ move_rank x → move_rank x ≡ move_rank y → y ≡ x
+      → DropsLowest l x → DropsLowest l y → from ≤ move_rank x → move_rank x ≡ move_rank y → y ≡ x
   one_move (move.Unmap p) (move.Unmap q) l lives t u legal other low least h e =
       ap (λ (z : Place). move.Unmap z) (place_of q p (mine q u ∙ sym (mine p t)) (omega (arith, e)))
   one_move (move.Unmap p) (move.Drop (key.Private q v)) l lives t u legal other low least h e =

@@ -1,7 +1,7 @@
 -- A flush has one log: pages that are written or waited for, one after another, as devices answer.
-use Rattle.std.proofs.Common.{◌≡◌, ℕ, Bool, true, false, List, [], ◌∷◌, ◌++◌, Some, None, refl, sym, ap, ◌∙◌, subst, inl, inr, arith}
+use Rattle.std.proofs.Common.{◌≡◌, ℕ, Bool, true, false, List, [], ◌∷◌, ◌++◌, refl, sym, ap, ◌∙◌, subst, inl, inr, arith}
 use Rattle.std.proofs.lemmas.Bool.{eqb-true}
-use Rattle.std.specs.Prelude.{IsTrue, not, is_some, ◌&&◌, ◌||◌, ◌==◌}
+use Rattle.std.specs.Prelude.{IsTrue, not, is_some, ◌&&◌, ◌||◌}
 use Rattle.mm_types.specs.{Backing, Held, Record, Request, LineKind, Move, Stored, Frame, Key}
 use Rattle.mm_types.specs.declared.frames.Backing.TheVariants as backing
 use Rattle.mm_types.specs.declared.frames.Held.TheVariants as held
@@ -11,7 +11,7 @@ use Rattle.mm_types.specs.declared.moves.Move.TheVariants as move
 use Rattle.mm_types.specs.declared.moves.Stored.TheVariants as stored
 use Rattle.mm_move_rules.specs.{record_at, is_on, has_request, FrameLife, is_access, is_writer, is_block, is_lowest, owner_is, has_depth, may_write_block}
 use Rattle.mm_move_rules.specs.{is_legal_write, after_move, Replays}
-use Rattle.mm_store.specs.{IsWriteOf, IsEndOf, IsWrittenNow, IsWrittenIf, IsEndedFirst, FlushesBy, FlushedAt, ends_lost, life_through}
+use Rattle.mm_store.specs.{IsEndOf, IsWrittenNow, IsWrittenIf, IsEndedFirst, FlushesBy, FlushedAt, ends_lost, life_through}
 use Rattle.mm_store.specs.Flushing.{Flushing}
 use Rattle.mm_line_moves.specs.{outcomes, AnswerAlike}
 
@@ -27,7 +27,7 @@ no_slot : (l : FrameLife) (k : LineKind) (a b c d : Bool) → k ≡ kind.Call �
 no_slot l k a b c d e h =
     let bad : false ≡ true = never a b c d (subst (λ (x : LineKind). IsTrue (a && b && c && (is_access x || (is_writer x && d)))) e h) in cc
 
-one_backing : (b c : ℕ) (k : Backing) → is_block b k ≡ true → is_block c k ≡ true → c ≡ b
+pub one_backing : (b c : ℕ) (k : Backing) → is_block b k ≡ true → is_block c k ≡ true → c ≡ b
 one_backing b c (backing.Block d) p q = sym (eqb-true d.0 c q) ∙ eqb-true d.0 b p
 one_backing b c _ p q = cc
 

@@ -1,7 +1,7 @@
 -- A line has one log: pages that go oldest first, requests that end, pages that come to be or go.
-use Rattle.std.proofs.Common.{◌≡◌, ◌≤◌, ◌<◌, ◌^◌, ℕ, ◌+◌, ◌-◌, Bool, true, false, cond, List, [], ◌∷◌, ◌++◌, map, Option, Some, None, refl, sym, ap, ◌∙◌, subst, inl, inr, ◌⊎◌, arith}
-use Rattle.std.proofs.lemmas.Bool.{eqb-true, and_parts, cases_lt}
-use Rattle.std.specs.Prelude.{IsTrue, not, ◌&&◌, ◌||◌, ◌==◌, nat_lt, if◌then◌else◌, is_some, length, min, slice_get}
+use Rattle.std.proofs.Common.{◌≡◌, ◌≤◌, ◌<◌, ◌^◌, ℕ, ◌+◌, Bool, true, false, cond, List, [], ◌∷◌, ◌++◌, map, Option, Some, None, refl, sym, ap, ◌∙◌, subst, inl, inr, arith}
+use Rattle.std.proofs.lemmas.Bool.{eqb-true, cases_lt}
+use Rattle.std.specs.Prelude.{IsTrue, not, ◌==◌, is_some, length}
 use Rattle.mm_types.proofs.{not_left, not_third, same_number}
 use Rattle.mm_move_rules.proofs.{same_key-self, same_key-true}
 use Rattle.mm_types.specs.{Answer, Event, Held, Move, Block, Key, Pid, Place, Frame}
@@ -9,55 +9,50 @@ use Rattle.mm_types.specs.declared.answers.Answer.TheVariants as answer
 use Rattle.mm_types.specs.declared.events.Event.TheVariants as line
 use Rattle.mm_types.specs.declared.frames.Held.TheVariants as held
 use Rattle.mm_types.specs.declared.moves.Move.TheVariants as move
-use Rattle.mm_types.specs.declared.numbers.Key.TheVariants as key
-use Rattle.mm_move_rules.specs.{record_at, FrameLife, is_live, is_dead, same_key, is_shared, set_of, is_call, is_legal_add, after_move, after_add, Replays}
-use Rattle.mm_move_rules.specs.{Aged, goes_before, TrimMove, spare_of, ending, frame_of, IsOldest, page_first, may_go, Walk, walked, Through}
+use Rattle.mm_move_rules.specs.{record_at, FrameLife, is_live, is_dead, same_key, is_shared, is_call, is_legal_add, after_add, Replays}
+use Rattle.mm_move_rules.specs.{TrimMove, ages_through, ending, frame_of, Walk, walked, Through}
+use Rattle.mm_world.specs.{ReadOf, WriteOf, Execute, address_in, attempt_in, kept_by}
 use Rattle.mm_world.specs.World.{World}
 use Rattle.mm_store.specs.Behind.{Behind}
-use Rattle.mm_store.specs.{Makes, MakesFrom, MakesStack, Turned, AllTurn, key_number, numbers_made, Climbs, IsStack, guard_told, Trims, Completes}
+use Rattle.mm_store.specs.{Makes, MakesStack, Turned, AllTurn, key_number, numbers_made, Climbs, IsStack, guard_told, Completes}
 use Rattle.mm_store.specs.{backed_by, block_at}
-use Rattle.mm_line_moves.specs.{lives, Does, Agrees, GivesUp, Trimming, Completing, flushed_keys, is_uncommitted, has_one_log, AnsweredAlike, Did}
-use Rattle.mm_line_moves.specs.{StandsAlways, StandsBefore}
-use Rattle.mm_line_moves.proofs.OneEnding.{one_end_log, place_of}
+use Rattle.mm_line_moves.specs.{lives, GivesUp, Trimming, Completing, flushed_keys, is_uncommitted, AnsweredAlike, Did}
+use Rattle.mm_line_moves.specs.{StandsAlike, StandsAlways, StandsBefore}
+use Rattle.mm_line_moves.proofs.AgesAlike.{did_aged}
+use Rattle.mm_line_moves.proofs.OneEnding.{one_end_log}
 use Rattle.mm_line_moves.proofs.OneFlush.{flushed}
+use Rattle.mm_line_moves.proofs.OneAccess.{one_oldest}
+use Rattle.mm_line_moves.proofs.OneAccessLine.{begun_line, beside, plain_line, resumed_line}
 
--- ---- the oldest page is one
-
-same_aged : (a b : Aged) → goes_before a b ≡ false → goes_before b a ≡ false → a.page ≡ b.page
-same_aged a b p q = grind (arith, p, q)
-
-one_oldest : (w : Walk) (p q : Place) → p.pid ≡ q.pid → IsOldest w.life w.ages None p → IsOldest w.life w.ages None q → q ≡ p
-one_oldest w p q e a b =
-    let same : p.pid.0 ≡ q.pid.0 = ap (λ (x : Pid). x.0) e in
-    sym (place_of p q same (same_aged (record { page = p.vpn.0; age = w.ages p }) (record { page = q.vpn.0; age = w.ages q }) (b.first p same a.goes) (a.first q (sym same) b.goes)))
+-- ---- pages that go oldest first
 
 trims_one : (pid : Pid) (w : Walk) (xs ys : List Move) → length xs ≡ length ys → Through (TrimMove pid) w xs → Through (TrimMove pid) w ys → ys ≡ xs
 trims_one pid w [] [] n p q = refl
 trims_one pid w [] (y ∷ ys) n p q = absurd (omega (arith, n))
 trims_one pid w (x ∷ xs) [] n p q = absurd (omega (arith, n))
 trims_one pid w (move.Unmap a ∷ xs) (move.Unmap b ∷ ys) n p q =
-    let same = one_oldest w a b (p.0.0 ∙ sym q.0.0) p.0.2 q.0.2 in
+    let same = one_oldest w None a b (ap (λ (x : Pid). x.0) (p.0.0 ∙ sym q.0.0)) p.0.2 q.0.2 in
     let rest = trims_one pid (walked w (move.Unmap a)) xs ys (omega (arith, n)) p.1 (subst (λ (z : Place). Through (TrimMove pid) (walked w (move.Unmap z)) ys) same q.1) in
     (λ i. move.Unmap (same i) ∷ rest i)
 trims_one pid w (move.Unmap a ∷ xs) (_ ∷ ys) n p q = absurd q.0
 trims_one pid w (_ ∷ xs) (y ∷ ys) n p q = absurd p.0
 
-trimmed : (there : Bool) (pid : Pid) (n : ℕ) (b c d : Behind) (xs ys : List Move) → Trimming there pid n b xs c → Trimming there pid n b ys d → ys ≡ xs
-trimmed true pid n b c d xs ys p q = trims_one pid (record { life = b.life; ages = b.ages; tried = [] }) xs ys (p.count ∙ sym q.count) p.each q.each
-trimmed false pid n b c d xs ys p q = q ∙ sym p
+trimmed : (there : Bool) (pid : Pid) (n : ℕ) (b o c d : Behind) (xs ys : List Move) → Trimming there pid n b xs c → Trimming there pid n (beside b o) ys d → ys ≡ xs
+trimmed true pid n b o c d xs ys p q = trims_one pid (record { life = b.life; ages = b.ages; tried = [] }) xs ys (p.count ∙ sym q.count) p.each q.each
+trimmed false pid n b o c d xs ys p q = q ∙ sym p
 
 -- ---- a request that ends
 
-completed : (i : ℕ) (ok : Bool) (b c d : Behind) (xs ys : List Move) → Completes i ok b xs c → Completes i ok b ys d → ys ≡ xs
-completed i ok b c d xs ys p q =
+completed : (i : ℕ) (ok : Bool) (b o c d : Behind) (xs ys : List Move) → Completes i ok b xs c → Completes i ok (beside b o) ys d → ys ≡ xs
+completed i ok b o c d xs ys p q =
     let both : Some q.frame ≡ Some p.frame = sym q.found ∙ p.found in
     let same : q.frame ≡ p.frame = cc in
     q.one ∙ ap (λ (f : ℕ). ending (record_at b.life.frames f) (frame_of f) ok ∷ []) same ∙ sym p.one
 
-ended : (i : ℕ) (a : Answer) (b c d : Behind) (xs ys : List Move) → Completing i a b xs c → Completing i a b ys d → ys ≡ xs
-ended i answer.Ok b c d xs ys p q = completed i true b c d xs ys p q
-ended i answer.Fault b c d xs ys p q = completed i false b c d xs ys p q
-ended i _ b c d xs ys p q = q ∙ sym p
+ended : (i : ℕ) (a : Answer) (b o c d : Behind) (xs ys : List Move) → Completing i a b xs c → Completing i a (beside b o) ys d → ys ≡ xs
+ended i answer.Ok b o c d xs ys p q = completed i true b o c d xs ys p q
+ended i answer.Fault b o c d xs ys p q = completed i false b o c d xs ys p q
+ended i _ b o c d xs ys p q = q ∙ sym p
 
 -- ---- pages that come to be
 
@@ -231,16 +226,16 @@ stacked guard b c d xs ys alike p q r t =
 
 -- ---- a line
 
-module _ (w v : World) (a : Answer) (b c d : Behind) (xs ys : List Move) where
-  alike_by : (e : Event) → Did w e a v b xs c → Did w e a v b ys d → Alike c.life d.life
+module _ (w v : World) (a : Answer) (b o c d : Behind) (xs ys : List Move) where
+  alike_by : (e : Event) → Did w e a v b xs c → Did w e a v (beside b o) ys d → Alike c.life d.life
   alike_by e p q = record {
     live = λ k. p.agrees.keys k ∙ sym (q.agrees.keys k);
     blocks = λ k. p.agrees.blocks k ∙ sym (q.agrees.blocks k);
   }
 
   -- a place without a committed row after the line is not valid then
-  unmapped_by : (e : Event) (x : Behind) (zs : List Move) → Did w e a v b zs x → (p : Place) → is_uncommitted v p ≡ true → x.life.valid p ≡ None
-  unmapped_by e x zs h p free = at (x.life.valid p) refl
+  unmapped_by : (e : Event) (z x : Behind) (zs : List Move) → Did w e a v z zs x → (p : Place) → is_uncommitted v p ≡ true → x.life.valid p ≡ None
+  unmapped_by e z x zs h p free = at (x.life.valid p) refl
     where
       at : (o : Option Frame) → x.life.valid p ≡ o → o ≡ None
       at None f = refl
@@ -248,27 +243,35 @@ module _ (w v : World) (a : Answer) (b c d : Behind) (xs ys : List Move) where
           let row = h.agrees.places p frame f in
           let bad : false ≡ true = sym (ap (λ (o : Option Key). not (is_some o)) row.1.0) ∙ free in cc
 
-  gone_one : (e : Event) (pid : Pid) → StandsAlways w b.life → GivesUp w pid v b.life xs → GivesUp w pid v b.life ys → Did w e a v b xs c → Did w e a v b ys d → ys ≡ xs
+  gone_one : (e : Event) (pid : Pid) → StandsAlways w b.life → GivesUp w pid v b.life xs → GivesUp w pid v b.life ys → Did w e a v b xs c → Did w e a v (beside b o) ys d → ys ≡ xs
   gone_one e pid s g h p q =
-      one_end_log w pid.0 b.life s (is_uncommitted v) c.life d.life xs ys (alike_by e p q).live (unmapped_by e c xs p) (unmapped_by e d ys q) g h p.replays q.replays
+      one_end_log w pid.0 b.life s (is_uncommitted v) c.life d.life xs ys (alike_by e p q).live (unmapped_by e b c xs p) (unmapped_by e (beside b o) d ys q) g h p.replays q.replays
 
-  pub one_log : (e : Event) → has_one_log e ≡ true → StandsBefore e w b.life → Did w e a v b xs c → Did w e a v b ys d → AnsweredAlike e xs ys → ys ≡ xs
-  one_log (line.Trim pid n) h s p q k = trimmed (lives w pid) pid n b c d xs ys p.does q.does
-  one_log (line.Io i) h s p q k = ended i a b c d xs ys p.does q.does
-  one_log (line.Alloc pid addr size type prot) h s p q k = made b c d xs ys (alike_by (line.Alloc pid addr size type prot) p q) p.does q.does p.replays q.replays
-  one_log (line.Create pid size flags name) h s p q k = made b c d xs ys (alike_by (line.Create pid size flags name) p q) p.does q.does p.replays q.replays
-  one_log (line.File name pages byte) h s p q k = made b c d xs ys (alike_by (line.File name pages byte) p q) p.does q.does p.replays q.replays
-  one_log (line.Probe tid addr) h s p q k = made b c d xs ys (alike_by (line.Probe tid addr) p q) p.does q.does p.replays q.replays
-  one_log (line.Read pid addr len) h s p q k = cc
-  one_log (line.Write pid addr bytes) h s p q k = cc
-  one_log (line.Exec pid addr) h s p q k = cc
-  one_log (line.Begin tid pid what) h s p q k = cc
-  one_log (line.Resume tid) h s p q k = cc
-  one_log (line.Flush pid addr size) h s p q k = flushed (flushed_keys w pid.0 addr size) b.life c.life d.life xs ys p.began p.does q.does p.replays q.replays k
-  one_log (line.Exit pid) h s p q k = gone_one (line.Exit pid) pid s p.does q.does p q
-  one_log (line.Free pid addr size type) h s p q k = gone_one (line.Free pid addr size type) pid s p.does q.does p q
-  one_log (line.Unmap pid addr) h s p q k = gone_one (line.Unmap pid addr) pid s p.does q.does p q
-  one_log (line.Close pid handle) h s p q k =
+  beside_log : (e : Event) → StandsBefore e w b.life → Did w e a v b xs c → Did w e a v (beside b o) ys d → AnsweredAlike e xs ys → ys ≡ xs
+  beside_log (line.Trim pid n) s p q k = trimmed (lives w pid) pid n b o c d xs ys p.does q.does
+  beside_log (line.Io i) s p q k = ended i a b o c d xs ys p.does q.does
+  beside_log (line.Alloc pid addr size type prot) s p q k = made b c d xs ys (alike_by (line.Alloc pid addr size type prot) p q) p.does q.does p.replays q.replays
+  beside_log (line.Create pid size flags name) s p q k = made b c d xs ys (alike_by (line.Create pid size flags name) p q) p.does q.does p.replays q.replays
+  beside_log (line.File name pages byte) s p q k = made b c d xs ys (alike_by (line.File name pages byte) p q) p.does q.does p.replays q.replays
+  beside_log (line.Probe tid addr) s p q k = made b c d xs ys (alike_by (line.Probe tid addr) p q) p.does q.does p.replays q.replays
+  beside_log (line.Read pid addr len) s p q k = plain_line w a b o c d xs ys s pid addr (ReadOf len) p.report q.report p.began p.does q.does p.replays q.replays k
+  beside_log (line.Write pid addr bytes) s p q k = plain_line w a b o c d xs ys s pid addr (WriteOf bytes) p.report q.report p.began p.does q.does p.replays q.replays k
+  beside_log (line.Exec pid addr) s p q k = plain_line w a b o c d xs ys s pid addr Execute p.report q.report p.began p.does q.does p.replays q.replays k
+  beside_log (line.Begin tid pid what) s p q k =
+      begun_line w a b o c d xs ys s tid.0 pid (address_in what) (attempt_in what) p.report q.report (is_some (kept_by w tid.0)) p.began p.does q.does p.replays q.replays k
+  beside_log (line.Resume tid) s p q k = resumed_line w a b o c d xs ys s (kept_by w tid.0) p.report q.report p.began p.does q.does p.replays q.replays k
+  beside_log (line.Flush pid addr size) s p q k = flushed (flushed_keys w pid.0 addr size) b.life c.life d.life xs ys p.began p.does q.does p.replays q.replays k
+  beside_log (line.Exit pid) s p q k = gone_one (line.Exit pid) pid s p.does q.does p q
+  beside_log (line.Free pid addr size type) s p q k = gone_one (line.Free pid addr size type) pid s p.does q.does p q
+  beside_log (line.Unmap pid addr) s p q k = gone_one (line.Unmap pid addr) pid s p.does q.does p q
+  beside_log (line.Close pid handle) s p q k =
       one_end_log w pid.0 b.life s (λ _. false) c.life d.life xs ys (alike_by (line.Close pid handle) p q).live (λ z e. cc) (λ z e. cc) p.does q.does p.replays q.replays
-  one_log (line.Stack tid pid reserve commit) h s p q k = stacked (guard_told a) b c d xs ys (alike_by (line.Stack tid pid reserve commit) p q) p.does q.does p.replays q.replays
-  one_log _ h s p q k = q.does ∙ sym p.does
+  beside_log (line.Stack tid pid reserve commit) s p q k = stacked (guard_told a) b c d xs ys (alike_by (line.Stack tid pid reserve commit) p q) p.does q.does p.replays q.replays
+  beside_log _ s p q k = q.does ∙ sym p.does
+
+-- the second run, with the first's ages
+pub one_log : (w v : World) (a : Answer) (b o c d : Behind) (xs ys : List Move) (e : Event) → StandsBefore e w b.life → StandsAlike b o → Did w e a v b xs c → Did w e a v o ys d → AnsweredAlike e xs ys → ys ≡ xs
+one_log w v a b o c d xs ys e s alike p q k =
+    let same : o ≡ record o { life = b.life } = (λ i. record { log = o.log; life = alike.life i; ages = o.ages; waits = o.waits; slots = o.slots }) in
+    let other = did_aged w v e a (record o { life = b.life }) d ys b.ages alike.ages (subst (λ (x : Behind). Did w e a v x ys d) same q) in
+    beside_log w v a b o c (record d { ages = ages_through ys b.ages }) xs ys e s p other k

@@ -23,10 +23,10 @@ abbrev pub kept_kind : Option KeptOf → LineKind
 kept_kind None = kind.Call
 kept_kind (Some k) = kind.Thread (record { 0 = k.pid })
 
-abbrev pub is_write : Attempt → Bool
-is_write (ReadOf len) = false
-is_write (WriteOf bytes) = true
-is_write Execute = false
+abbrev pub is_write_attempt : Attempt → Bool
+is_write_attempt (ReadOf len) = false
+is_write_attempt (WriteOf bytes) = true
+is_write_attempt Execute = false
 
 module _ {B : Type 0} where
   abbrev pub lives : WorldOf B → Pid → Bool
@@ -77,7 +77,7 @@ module _ {B : Type 0} where
       option_map (λ n. record {
         place = place_at pid (page_of addr);
         need = n;
-        writes = is_write what;
+        writes = is_write_attempt what;
         start = l;
       }) (need_at w pid.0 addr what)
 

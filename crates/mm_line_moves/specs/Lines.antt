@@ -1,7 +1,7 @@
 -- What a line does to the life of the frames, by the worlds and the reports before and after it.
 -- Profile, "Which frame moves, and when".
-use Rattle.std.specs.Prelude.{◌≡◌, ◌≤◌, ◌<◌, ◌⊎◌, ◌&&◌, ℕ, ◌+◌, ◌-◌, ◌==◌, Bool, true, false, not, if◌then◌else◌, is_some, List, [], ◌∷◌, ◌++◌, length, map, replicate, slice_get, Option, Some, None, option_map, option_and_then, unwrap_or}
-use Rattle.mm_types.specs.{Answer, Event, Held, Move, Frame, Key, Pid, Place, View, Kind, Range}
+use Rattle.std.specs.Prelude.{◌≡◌, ◌⊎◌, ◌&&◌, ◌||◌, ℕ, ◌+◌, ◌-◌, ◌==◌, Bool, true, false, not, if◌then◌else◌, is_some, List, [], ◌∷◌, ◌++◌, length, map, replicate, Option, Some, None, option_map, option_and_then, unwrap_or}
+use Rattle.mm_types.specs.{Answer, Why, Event, Held, Move, Frame, Key, Pid, Place, View, Kind, Range}
 use Rattle.mm_types.specs.declared.answers.Answer.TheVariants as answer
 use Rattle.mm_types.specs.declared.answers.Why.TheVariants as why
 use Rattle.mm_types.specs.declared.codes.Raise.TheVariants as raise
@@ -10,13 +10,15 @@ use Rattle.mm_types.specs.declared.frames.Held.TheVariants as held
 use Rattle.mm_types.specs.declared.moves.Move.TheVariants as move
 use Rattle.mm_types.specs.declared.views.Kind.TheVariants as view_kind
 use Rattle.mm_move_rules.specs.{record_at, FrameLife, is_live, numbers_from, counts_of, after_move, Grew, AreMoves, spelled_moves, Replays, Waiting, Idle}
-use Rattle.mm_move_rules.specs.{ForFrame, wait_of, waits_through, ages_through, walked_all, is_valid, Starved, all_aged, clearings, writes_begun}
+use Rattle.mm_move_rules.specs.{ForFrame, wait_of, waits_through, ages_through, walked_all, Starved, all_aged, clearings, writes_begun}
 use Rattle.mm_world.specs.{Page, filled, KeptOf, RegionOf, Found, process_of, area_at, content_of, shared_key, flushed_view, flushed_range, BeingRead}
 use Rattle.mm_world.specs.{kept_by, read_failed}
 use Rattle.mm_world.specs.World.{World}
 use Rattle.mm_world.specs.Report.{Report}
 use Rattle.mm_devices.specs.{DeviceOf, Call, AllServed, logged_call, KeepsOthers}
-use Rattle.mm_store.specs.{changed, same_place, told_of, told_through, paging_traffic, file_traffic, Aim, AccessMoves, ReadFails, walk_from, Makes}
+use Rattle.mm_store.specs.{told_of, told_through, paging_traffic, file_traffic, Aim, AccessMoves, ReadFails, IsServed, IsHeldUp, is_shortage, walk_from, Makes}
+use Rattle.mm_move_rules.specs.{same_place}
+use Rattle.mm_move_rules.specs.{changed}
 use Rattle.mm_store.specs.{MakesStack, Turned, guard_told, Trims, Completes, leaving, where_of, block_at, backed_by, Goes}
 use Rattle.mm_store.specs.Behind.{Behind}
 use Rattle.mm_store.specs.Flushing.{Flushing}
@@ -57,10 +59,10 @@ TurnsKeys w v (m ∷ ms) = TurnsOne w v m × TurnsKeys w v ms
 -- ---- accesses
 
 -- of an answer that gives the access its bytes
-abbrev pub is_had : Answer → Bool
-is_had answer.Ok = true
-is_had (answer.Bytes b) = true
-is_had _ = false
+abbrev pub is_access_served : Answer → Bool
+is_access_served answer.Ok = true
+is_access_served (answer.Bytes b) = true
+is_access_served _ = false
 
 abbrev pub is_failed : Answer → Bool
 is_failed (answer.Raised raise.InPageError) = true
@@ -70,17 +72,27 @@ abbrev pub is_pending_read : Answer → Bool
 is_pending_read (answer.Pending why.Read) = true
 is_pending_read _ = false
 
--- what it leaves: a place that was had is valid; one that found no frame leaves hardly a place
--- valid; one that waits for a read has its page being read. Where a read of its page failed, that
--- was its last move. A thread whose read failed while it waited makes no move
+abbrev pub is_access_pending : Answer → Bool
+is_access_pending (answer.Pending why) = true
+is_access_pending _ = false
+
+-- what it leaves: a place that was served is valid, and after a write soiled; one that found no
+-- frame is short of one, and hardly a place is valid; one that waits, of a thread, is held up, and
+-- one that waits for a read has its page being read. Where a read of its page failed, that was its
+-- last move. A thread whose read failed while it waited makes no move
 pub record Accesses (plain : Bool) (a : Aim) (r : Answer) (after : Report) (b : Behind)
     (moves : List Move) (c : Behind) : Type 0 where
   pub made : AccessMoves a b moves
   pub read : ReadFails (plain && is_failed r && read_failed a.need after) moves
   pub still : plain ≡ false → is_failed r ≡ true → moves ≡ []
-  pub valid : is_had r ≡ true → is_valid c.life a.place ≡ true
+  pub answers : (is_access_served r || is_failed r || is_access_pending r) ≡ true
+  pub at_once : plain ≡ true → is_access_pending r ≡ false
+  pub served : is_access_served r ≡ true → IsServed a c.life
+  pub held_up : (why : Why) → r ≡ answer.Pending why → IsHeldUp why a c.life
   pub awaited : is_pending_read r ≡ true → after.whereabouts a.need.key ≡ Some BeingRead
-  pub starved : plain ≡ true → is_failed r ≡ true → after.last_failed_read ≡ None →
+  pub short : plain ≡ true → is_failed r ≡ true → read_failed a.need after ≡ false →
+      is_shortage a.need a.place c.life ≡ true
+  pub starved : plain ≡ true → is_failed r ≡ true → read_failed a.need after ≡ false →
       Starved (c.life.valid a.place) (walked_all (walk_from b) moves)
 
 -- an access that is not permitted makes no move
@@ -101,8 +113,8 @@ abbrev pub GivesUp : World → Pid → World → FrameLife → List Move → Typ
 GivesUp w pid v l moves = Turned (Goes (leaving w pid.0 (is_uncommitted v))) l moves
 
 -- the shared pages of the range of a flush, in rising order, where the section is a file
-abbrev pub file_pages : World → View → ℕ → Range → List Key
-file_pages w v base range =
+abbrev pub flushed_file_keys : World → View → ℕ → Range → List Key
+flushed_file_keys w v base range =
     if is_some (area_at w v.area.0).file_block
     then map (λ page. shared_key v.area.0 (v.first + (page - base)))
     (numbers_from range.first range.count)
@@ -111,7 +123,7 @@ file_pages w v base range =
 abbrev pub flushed_in : World → ℕ → ℕ → Kind → Found (RegionOf Page) → List Key
 flushed_in w addr size view_kind.Private r = []
 flushed_in w addr size (view_kind.View v) r =
-    file_pages w v r.thing.base (flushed_range r.thing addr size)
+    flushed_file_keys w v r.thing.base (flushed_range r.thing addr size)
 
 abbrev pub flushed_keys : World → ℕ → ℕ → ℕ → List Key
 flushed_keys w pid addr size =
@@ -165,7 +177,7 @@ Does w _ a v r b ms c = ms ≡ []
 
 abbrev pub place_had : Option Aim → Answer → (Place → ℕ) → Place → ℕ
 place_had None r ages p = ages p
-place_had (Some a) r ages p = if is_had r then changed same_place ages a.place 0 p else ages p
+place_had (Some a) r ages p = if is_access_served r then changed same_place ages a.place 0 p else ages p
 
 abbrev pub ages_of_line : World → Event → Answer → Behind → List Move → Place → ℕ
 ages_of_line w (line.Age pid) a b ms p = if lives w pid then all_aged pid b.life b.ages p else

@@ -36,6 +36,10 @@ second_write = record {
   start = life_after 14 rewritten_log;
 }
 
+-- its soft fault alone
+abbrev pub mapped_alone : Behind
+mapped_alone = behind_after 15 (take 14 rewritten_log ++ move.Map (record { 0 = 0 }) (place 1 16) ∷ [])
+
 -- the access of the smallest set's last line: its only page goes for the next
 abbrev pub next_page : Aim
 next_page = record {
@@ -75,6 +79,18 @@ copy_of_page = record {
   writes = true;
   start = life_after 9 copied_log;
 }
+
+-- the copy comes to be, and the page copied from is mapped once more before it
+abbrev pub shared_again : List Move
+shared_again =
+    move.Clear (record { 0 = 1 })
+    ∷ move.Add (private 1 16) None
+    ∷ move.Give (record { 0 = 1 }) (private 1 16)
+    ∷ move.Unmap (place 1 16)
+    ∷ move.Map (record { 0 = 0 }) (place 1 16)
+    ∷ move.Unmap (place 1 16)
+    ∷ move.Map (record { 0 = 1 }) (place 1 16)
+    ∷ []
 
 -- a thread waited for a file's page, whose read has failed, and goes on
 abbrev pub resumed_log : List Move
@@ -129,11 +145,11 @@ section_log =
 
 -- what is kept of a frame whose page is changed, and of one whose page was written to during its
 -- write
-abbrev pub changed_page : Record
-changed_page = given (private 1 16)
+abbrev pub changed_record : Record
+changed_record = given (private 1 16)
 
 abbrev pub page_written_to : Record
-page_written_to = record changed_page { request = request.WriteAgain }
+page_written_to = record changed_record { request = request.WriteAgain }
 
 -- all places, and the area of the section with this rank
 abbrev pub going : ℕ → Leaving

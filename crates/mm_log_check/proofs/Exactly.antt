@@ -6,7 +6,7 @@ use Rattle.mm_move_rules.specs.{move_onto, spelling_of_move, spelled_moves, IsMo
 use Rattle.mm_move_rules.specs.{Replays, CountsOfLog, counts_of_log}
 use Rattle.mm_move_rules.proofs.{replays_one}
 use Rattle.mm_replay.proofs.{move_onto-is, one_move}
-use Rattle.mm_log_check.specs.{yes_text, text_of, status_of, most_bytes, IsStuck, StuckBefore, Came, Shows, LogCheckRan, IsFaultStatus, SaysYes, SaysNo}
+use Rattle.mm_log_check.specs.{yes_text, verdict_text, log_status_of, most_log_bytes, IsStuck, StuckBefore, Came, Shows, LogCheckRan, IsFaultStatus, SaysYes, SaysNo}
 use Rattle.mm_log_check.specs.{Asked, Ending}
 use Rattle.mm_log_check.specs.declared.endings.Ending.TheVariants as ending
 
@@ -53,7 +53,7 @@ pub end_told : (left' : Option Text) (more : Text) → left' ≡ Some more → I
 end_told None more e h = cc
 end_told (Some b) more e h = let same : b ≡ more = cc in sym same ∙ h
 
-module _ (a : Asked) (text : Text) (moves : List Move) (l : FrameLife) (left left' took took' : Option Text) (status : ℕ) (told : left ≡ Some text) (few : length text ≤ most_bytes) (whole : IsSpelled moves text) (replays : Replays moves unstarted l) where
+module _ (a : Asked) (text : Text) (moves : List Move) (l : FrameLife) (left left' took took' : Option Text) (status : ℕ) (told : left ≡ Some text) (few : length text ≤ most_log_bytes) (whole : IsSpelled moves text) (replays : Replays moves unstarted l) where
   -- the run came to `yes`
   from_yes : (life : FrameLife) (c : CountsOfLog) → Came left left' ending.Yes life c → (c ≡ counts_of_log moves) × (life ≡ l)
   from_yes life c came =
@@ -84,7 +84,7 @@ module _ (a : Asked) (text : Text) (moves : List Move) (l : FrameLife) (left lef
       let t = taken_told text left' r.taken (subst (λ (o : Option Text). Took o left' r.taken) told r.took) in
       omega (arith, came.ends, r.total_is, ap length t.1.1, length-append r.taken t.0, few)
 
-  by_ending : (e : Ending) (life : FrameLife) (c : CountsOfLog) → Came left left' e life c → Shows took took' (text_of a e c life) (status_of e) status → SaysYes a moves l took took' status ⊎ IsFaultStatus status
+  by_ending : (e : Ending) (life : FrameLife) (c : CountsOfLog) → Came left left' e life c → Shows took took' (verdict_text a e c life) (log_status_of e) status → SaysYes a moves l took took' status ⊎ IsFaultStatus status
   by_ending ending.Yes life c came (inl h) =
       let f = from_yes life c came in
       inl (record { zero = h.0; text = subst (λ (t : Text). Appended took took' t) (ap (λ (d : CountsOfLog). yes_text a d life) f.0 ∙ ap (λ (k : FrameLife). yes_text a (counts_of_log moves) k) f.1) h.1 })
@@ -96,12 +96,12 @@ module _ (a : Asked) (text : Text) (moves : List Move) (l : FrameLife) (left lef
   by_ending ending.NoMemory life c came (inl h) = inr (inl h.0)
   by_ending ending.NoMemory life c came (inr h) = inr (inr (inr h.0))
 
-pub says_yes : (a : Asked) (text : Text) (moves : List Move) (l : FrameLife) (left left' took took' : Option Text) (status : ℕ) → left ≡ Some text → length text ≤ most_bytes → IsSpelled moves text → Replays moves unstarted l
+pub says_yes : (a : Asked) (text : Text) (moves : List Move) (l : FrameLife) (left left' took took' : Option Text) (status : ℕ) → left ≡ Some text → length text ≤ most_log_bytes → IsSpelled moves text → Replays moves unstarted l
     → LogCheckRan a left left' took took' status → SaysYes a moves l took took' status ⊎ IsFaultStatus status
 says_yes a text moves l left left' took took' status told few whole replays ran =
     by_ending a text moves l left left' took took' status told few whole replays ran.ending ran.life ran.counts ran.came ran.shows
 
-module _ (a : Asked) (text rest : Text) (moves : List Move) (l : FrameLife) (left left' took took' : Option Text) (status : ℕ) (told : left ≡ Some text) (few : length text ≤ most_bytes) (in_range : AreMoves moves) (whole : text ≡ spelled_moves moves ++ rest) (replays : Replays moves unstarted l) (stuck : IsStuck l rest) where
+module _ (a : Asked) (text rest : Text) (moves : List Move) (l : FrameLife) (left left' took took' : Option Text) (status : ℕ) (told : left ≡ Some text) (few : length text ≤ most_log_bytes) (in_range : AreMoves moves) (whole : text ≡ spelled_moves moves ++ rest) (replays : Replays moves unstarted l) (stuck : IsStuck l rest) where
   same_line : (life : FrameLife) (c : CountsOfLog) (line : ℕ) (o : Option Move) → Came left left' (ending.No line o) life c → line ≡ length moves + 1
   same_line life c line o came =
       let r = came.replayed in
@@ -128,10 +128,10 @@ module _ (a : Asked) (text rest : Text) (moves : List Move) (l : FrameLife) (lef
       let t = taken_told text left' r.taken (subst (λ (o : Option Text). Took o left' r.taken) told r.took) in
       omega (arith, came.ends, r.total_is, ap length t.1.1, length-append r.taken t.0, few)
 
-  no_by_ending : (e : Ending) (life : FrameLife) (c : CountsOfLog) → Came left left' e life c → Shows took took' (text_of a e c life) (status_of e) status → SaysNo (length moves + 1) took took' status ⊎ IsFaultStatus status
+  no_by_ending : (e : Ending) (life : FrameLife) (c : CountsOfLog) → Came left left' e life c → Shows took took' (verdict_text a e c life) (log_status_of e) status → SaysNo (length moves + 1) took took' status ⊎ IsFaultStatus status
   no_by_ending ending.Yes life c came s = absurd (not_yes life c came)
   no_by_ending (ending.No line o) life c came (inl h) =
-      inl (record { three = h.0; text = subst (λ (k : ℕ). Appended took took' (text_of a (ending.No k o) c life)) (same_line life c line o came) h.1 })
+      inl (record { three = h.0; text = subst (λ (k : ℕ). Appended took took' (verdict_text a (ending.No k o) c life)) (same_line life c line o came) h.1 })
   no_by_ending (ending.No line o) life c came (inr h) = inr (inr (inr h.0))
   no_by_ending ending.TooLong life c came s = absurd (not_too_long life c came)
   no_by_ending ending.ReadFault life c came (inl h) = inr (inr (inl h.0))
@@ -139,7 +139,7 @@ module _ (a : Asked) (text rest : Text) (moves : List Move) (l : FrameLife) (lef
   no_by_ending ending.NoMemory life c came (inl h) = inr (inl h.0)
   no_by_ending ending.NoMemory life c came (inr h) = inr (inr (inr h.0))
 
-pub says_no : (a : Asked) (text rest : Text) (moves : List Move) (l : FrameLife) (left left' took took' : Option Text) (status : ℕ) → left ≡ Some text → length text ≤ most_bytes → AreMoves moves → text ≡ spelled_moves moves ++ rest → Replays moves unstarted l → IsStuck l rest
+pub says_no : (a : Asked) (text rest : Text) (moves : List Move) (l : FrameLife) (left left' took took' : Option Text) (status : ℕ) → left ≡ Some text → length text ≤ most_log_bytes → AreMoves moves → text ≡ spelled_moves moves ++ rest → Replays moves unstarted l → IsStuck l rest
     → LogCheckRan a left left' took took' status → SaysNo (length moves + 1) took took' status ⊎ IsFaultStatus status
 says_no a text rest moves l left left' took took' status told few in_range whole replays stuck ran =
     no_by_ending a text rest moves l left left' took took' status told few in_range whole replays stuck ran.ending ran.life ran.counts ran.came ran.shows

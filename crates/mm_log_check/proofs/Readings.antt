@@ -9,7 +9,7 @@ use Rattle.mm_move_rules.proofs.{spelled-append, moves-append}
 use Rattle.mm_replay.proofs.{NoFeed, move_onto-is, move_no_feed, move_short}
 use Rattle.mm_io.specs.{FitsLine, HasLine, IsLong, Filled, Finds, Found}
 use Rattle.mm_io.specs.declared.buffers.Found.TheVariants as found
-use Rattle.mm_log_check.specs.{most_bytes, EndsAt, StandsInFront, Lines, ReadsMoves, Stops, TakesNext, LogReader, Ending}
+use Rattle.mm_log_check.specs.{most_log_bytes, EndsAt, StandsInFront, Lines, ReadsMoves, Stops, TakesNext, LogReader, Ending}
 use Rattle.mm_log_check.specs.Reading.{Reading}
 use Rattle.mm_log_check.specs.declared.endings.Ending.TheVariants as ending
 use Rattle.mm_log_check.proofs.Stuck.{stuck_line, stuck_long, stuck_end, spells_line, spells_long, spells_end}
@@ -58,7 +58,7 @@ lines_move left left' held len total m ms a h in_range text =
 
 -- the line in front was taken, or is none
 pub took_line : (left left' : Option Text) (r r' : LogReader) (len : ℕ) (l : FrameLife) (moves : List Move) (result : Result Move Ending)
-    → Lines left left' r.held moves r.bytes → r.lines ≡ length moves → HasLine r.held len → r.bytes ≤ most_bytes → TakesNext r r' len l result
+    → Lines left left' r.held moves r.bytes → r.lines ≡ length moves → HasLine r.held len → r.bytes ≤ most_log_bytes → TakesNext r r' len l result
     → MatchResult result (λ m. ReadsMoves left left' r' moves l m) (λ e. Stops left left' moves l e)
 took_line left left' r r' len l moves (Ok m) lines number h few t = record {
   reading = record {
@@ -103,7 +103,7 @@ front_line m rest held s =
     }
 
 pub took_front : (left left' : Option Text) (r r' : LogReader) (l : FrameLife) (moves : List Move) (m : Move) (rest : Text)
-    → Reading left left' r moves → StandsInFront m rest r.held → r.bytes ≤ most_bytes → IsLegal m l
+    → Reading left left' r moves → StandsInFront m rest r.held → r.bytes ≤ most_log_bytes → IsLegal m l
     → r'.held ≡ drop (length r.held - length rest) r.held → r'.lines ≡ r.lines + 1 → r'.bytes ≡ r.bytes → ReadsMoves left left' r' moves l m
 took_front left left' r r' l moves m rest reading s few legal held lines bytes =
     let n : ℕ = length (move_text m) in
@@ -125,7 +125,7 @@ stops_here left left' held moves total l e lines ends = record { held = held; to
 pub stops_read : (left left' : Option Text) (held : Text) (moves : List Move) (total : ℕ) (l : FrameLife) → Lines left left' held moves total → Stops left left' moves l ending.ReadFault
 stops_read left left' held moves total l lines = stops_here left left' held moves total l ending.ReadFault lines tt
 
-pub stops_full : (left left' : Option Text) (held : Text) (moves : List Move) (total : ℕ) (l : FrameLife) → Lines left left' held moves total → most_bytes < total → Stops left left' moves l ending.TooLong
+pub stops_full : (left left' : Option Text) (held : Text) (moves : List Move) (total : ℕ) (l : FrameLife) → Lines left left' held moves total → most_log_bytes < total → Stops left left' moves l ending.TooLong
 stops_full left left' held moves total l lines many = stops_here left left' held moves total l ending.TooLong lines many
 
 -- what was found, where it is known what that is
@@ -138,13 +138,13 @@ finds_long f left held e h = (subst (λ (x : Found). Finds (Ok x) left held) e h
 pub finds_end : (f : Found) (left : Option Text) (held : Text) → f ≡ found.End → Finds (Ok f) left held → FitsLine held × IsEnd left
 finds_end f left held e h = subst (λ (x : Found). Finds (Ok x) left held) e h
 
-pub stops_long : (left left' : Option Text) (held : Text) (moves : List Move) (lines total : ℕ) (l : FrameLife) → Lines left left' held moves total → lines ≡ length moves → IsLong held → total ≤ most_bytes
+pub stops_long : (left left' : Option Text) (held : Text) (moves : List Move) (lines total : ℕ) (l : FrameLife) → Lines left left' held moves total → lines ≡ length moves → IsLong held → total ≤ most_log_bytes
     → Stops left left' moves l (ending.No (lines + 1) None)
 stops_long left left' held moves lines total l r number h few =
     stops_here left left' held moves total l (ending.No (lines + 1) None) r (ap (λ (k : ℕ). k + 1) number, stuck_long l held left' h, few, spells_long l held left' h)
 
 -- the last line: whole or not
-pub stops_last : (left left' : Option Text) (held : Text) (moves : List Move) (lines total : ℕ) (l : FrameLife) (e : Ending) → Lines left left' held moves total → lines ≡ length moves → total ≤ most_bytes
+pub stops_last : (left left' : Option Text) (held : Text) (moves : List Move) (lines total : ℕ) (l : FrameLife) (e : Ending) → Lines left left' held moves total → lines ≡ length moves → total ≤ most_log_bytes
     → FitsLine held → IsEnd left' → (held ≡ [] → e ≡ ending.Yes) → (0 < length held → e ≡ ending.No (lines + 1) None) → Stops left left' moves l e
 stops_last left left' [] moves lines total l e r number few line end whole cut =
     subst (λ (x : Ending). Stops left left' moves l x) (sym (whole refl)) (stops_here left left' [] moves total l ending.Yes r (refl, end, few))

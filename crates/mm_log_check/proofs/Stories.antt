@@ -3,7 +3,7 @@ use Rattle.std.proofs.Common.{◌≡◌, ℕ, ◌<◌, List, [], ◌∷◌, ◌+
 use Rattle.mm_types.specs.{Text, Move}
 use Rattle.mm_move_rules.specs.{FrameLife, unstarted, is_on, CountsOfLog, spelled_moves, Replays}
 use Rattle.mm_move_rules.proofs.{replays_then, spelled-append}
-use Rattle.mm_log_check.specs.{TallyOf, CountsNothing, IsReadyToRead, ReadsMoves, Stops, Lines, most_bytes, Replayed, Came, Steps, Halts, MovesWereTaken}
+use Rattle.mm_log_check.specs.{TallyOf, CountsNothing, IsReadyToRead, ReadsMoves, Stops, Lines, most_log_bytes, Replayed, Came, Steps, Halts, MovesWereTaken}
 use Rattle.mm_log_check.specs.{brought_after, LogReader, Ending}
 use Rattle.mm_log_check.specs.Reading.{Reading}
 use Rattle.mm_log_check.specs.declared.endings.Ending.TheVariants as ending
@@ -72,7 +72,7 @@ came_halt left mid left' r r' l t m l' c s n (inr made) = record {
 }
 
 -- so many lines have more bytes than a log may have
-pub came_full : (left left' : Option Text) (r : LogReader) (l : FrameLife) (t : TallyOf) → IsReadyToRead r → most_bytes < r.lines → Came left left' ending.TooLong l t.counts
+pub came_full : (left left' : Option Text) (r : LogReader) (l : FrameLife) (t : TallyOf) → IsReadyToRead r → most_log_bytes < r.lines → Came left left' ending.TooLong l t.counts
 came_full left left' r l t ready many = absurd (omega (arith, ready.few, ready.lines, many))
 
 pub number_is : (left left' : Option Text) (r : LogReader) (l : FrameLife) (t : TallyOf) → MovesWereTaken left left' r l t → t.counts.moves ≡ r.lines

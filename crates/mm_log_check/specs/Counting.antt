@@ -3,11 +3,11 @@
 use Rattle.std.specs.Prelude.{◌≡◌, ℕ, ◌+◌, Bool, if◌then◌else◌, List, []}
 use Rattle.mm_types.specs.{Move}
 use Rattle.mm_move_rules.specs.{CountsOfLog, is_give, is_read_in, is_steal, is_wrote, soft_fault, brought_in}
-use Rattle.mm_log_check.specs.Marking.{MarksOf, AreMarked}
+use Rattle.mm_log_check.specs.Marking.{LineMarksOf, AreMarked}
 
 pub record TallyOf : Type 0 where
   pub counts : CountsOfLog
-  pub brought : MarksOf
+  pub brought : LineMarksOf
 
 abbrev pub no_counts : CountsOfLog
 no_counts = record {

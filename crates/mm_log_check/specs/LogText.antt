@@ -38,19 +38,19 @@ abbrev pub yes_text : Asked → CountsOfLog → FrameLife → Text
 yes_text asked.Check c l = check_text c
 yes_text (asked.Where k) c l = held_text (held_at l k)
 
-abbrev pub text_of : Asked → Ending → CountsOfLog → FrameLife → Text
-text_of a ending.Yes c l = yes_text a c l
-text_of a (ending.No line refused) c l = numbered (codes "no line ") line (10 ∷ [])
-text_of a ending.TooLong c l = codes "too long" ++ (10 ∷ [])
-text_of a ending.ReadFault c l = []
-text_of a ending.NoMemory c l = []
+abbrev pub verdict_text : Asked → Ending → CountsOfLog → FrameLife → Text
+verdict_text a ending.Yes c l = yes_text a c l
+verdict_text a (ending.No line refused) c l = numbered (codes "no line ") line (10 ∷ [])
+verdict_text a ending.TooLong c l = codes "too long" ++ (10 ∷ [])
+verdict_text a ending.ReadFault c l = []
+verdict_text a ending.NoMemory c l = []
 
 abbrev pub usage_text : Text
 usage_text = codes "usage: mmlog check | mmlog where KEY" ++ (10 ∷ [])
 
-abbrev pub status_of : Ending → ℕ
-status_of ending.Yes = 0
-status_of (ending.No line refused) = 3
-status_of ending.TooLong = 8
-status_of ending.ReadFault = 4
-status_of ending.NoMemory = 1
+abbrev pub log_status_of : Ending → ℕ
+log_status_of ending.Yes = 0
+log_status_of (ending.No line refused) = 3
+log_status_of ending.TooLong = 8
+log_status_of ending.ReadFault = 4
+log_status_of ending.NoMemory = 1

@@ -3,7 +3,7 @@
 use Rattle.std.specs.Prelude.{◌≡◌, ℕ, ◌+◌, ◌<◌, ◌≤◌, false, List, [], ◌∷◌, ◌++◌, length, take, drop, Option, Some, None, Result, Ok, Err}
 use Rattle.mm_types.specs.{Took, Text, Move}
 use Rattle.mm_move_rules.specs.{move_text, spelled_moves, IsMove, AreMoves, FrameLife, is_legal, IsLegal}
-use Rattle.mm_log_check.specs.Verdict.{most_bytes, EndsAt}
+use Rattle.mm_log_check.specs.Verdict.{most_log_bytes, EndsAt}
 use Rattle.mm_log_check.specs.declared.endings.Ending.{Ending}
 use Rattle.mm_log_check.specs.declared.endings.Ending.TheVariants as ending
 use Rattle.mm_log_check.specs.declared.readers.LogReader.{LogReader}
@@ -11,7 +11,7 @@ use Rattle.mm_log_check.specs.declared.readers.LogReader.{LogReader}
 -- so few bytes are held and were taken that one more line may be read
 pub record IsReadyToRead (r : LogReader) : Type 0 where
   pub held : length r.held < 4096
-  pub few : r.bytes ≤ most_bytes
+  pub few : r.bytes ≤ most_log_bytes
   -- each line has a byte
   pub lines : r.lines + length r.held ≤ r.bytes
 

@@ -3,14 +3,14 @@
 use Rattle.std.specs.Prelude.{◌≡◌, ◌⊎◌, ℕ, ◌+◌, ◌<◌, ◌≤◌, false, List, [], ◌∷◌, ◌++◌, length, Option, Some, None}
 use Rattle.mm_types.specs.{Took, IsEnd, Appended, Text, Move}
 use Rattle.mm_move_rules.specs.{move_onto, spelled_moves, IsMove, AreMoves, FrameLife, unstarted, is_legal, Replays, CountsOfLog, counts_of_log}
-use Rattle.mm_log_check.specs.LogText.{text_of, status_of}
+use Rattle.mm_log_check.specs.LogText.{verdict_text, log_status_of}
 use Rattle.mm_log_check.specs.declared.endings.Asked.{Asked}
 use Rattle.mm_log_check.specs.declared.endings.Ending.{Ending}
 use Rattle.mm_log_check.specs.declared.endings.Ending.TheVariants as ending
 
 -- the most bytes that a log may have
-abbrev pub most_bytes : ℕ
-most_bytes = 1000000000000
+abbrev pub most_log_bytes : ℕ
+most_log_bytes = 1000000000000
 
 -- There are bytes, and in front of them stands no whole line of a move that is legal in this state.
 pub record IsStuck (l : FrameLife) (bytes : Text) : Type 0 where
@@ -36,11 +36,11 @@ SpellsBefore (Some more) refused bytes = SpellsMove refused (bytes ++ more)
 -- After the moves of whole lines, which lead to this state, stand these bytes; so many were taken
 -- in all.
 abbrev pub EndsAt : Ending → Option Text → List Move → FrameLife → Text → ℕ → Type 0
-EndsAt ending.Yes left moves l held total = (held ≡ []) × IsEnd left × (total ≤ most_bytes)
+EndsAt ending.Yes left moves l held total = (held ≡ []) × IsEnd left × (total ≤ most_log_bytes)
 EndsAt (ending.No line refused) left moves l held total =
-    (line ≡ length moves + 1) × StuckBefore left l held × (total ≤ most_bytes) ×
+    (line ≡ length moves + 1) × StuckBefore left l held × (total ≤ most_log_bytes) ×
     SpellsBefore left refused held
-EndsAt ending.TooLong left moves l held total = most_bytes < total
+EndsAt ending.TooLong left moves l held total = most_log_bytes < total
 EndsAt ending.ReadFault left moves l held total = Unit {0}
 EndsAt ending.NoMemory left moves l held total = Unit {0}
 
@@ -87,4 +87,4 @@ pub record LogCheckRan (asked : Asked) (left left' took took' : Option Text) (re
   pub life : FrameLife
   pub counts : CountsOfLog
   pub came : Came left left' ending life counts
-  pub shows : Shows took took' (text_of asked ending counts life) (status_of ending) result
+  pub shows : Shows took took' (verdict_text asked ending counts life) (log_status_of ending) result

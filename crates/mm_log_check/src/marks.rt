@@ -17,9 +17,9 @@ pub(crate) struct Brought {
 }
 
 impl Model for Brought {
-    ghost use Rattle.mm_log_check.specs.Marking.{MarksOf, AreEarlier};
+    ghost use Rattle.mm_log_check.specs.Marking.{LineMarksOf, AreEarlier};
 
-    ghost Value = { MarksOf };
+    ghost Value = { LineMarksOf };
 
     ghost view = { λ b. record { line = b.line; marks = b.marks.items } };
 

@@ -3,7 +3,7 @@ ghost use Rattle.mm_move_rules.specs.{IsLegal};
 ghost use Rattle.mm_types.specs.{Rose, Move};
 ghost use Rattle.mm_io.specs.{HasLine};
 ghost use Rattle.mm_replay.specs.Standing.{life as life_of};
-ghost use Rattle.mm_log_check.specs.Verdict.{most_bytes};
+ghost use Rattle.mm_log_check.specs.Verdict.{most_log_bytes};
 ghost use Rattle.mm_log_check.specs.Reading.{IsReadyToRead, Reading, ReadsMoves, Stops, TakesNext};
 
 use crate::endings::Ending;
@@ -141,7 +141,7 @@ impl LogReader {
     #[tactic(auto, using(crate::proofs::Readings::readings))]
     fn take_line(&mut self, len: usize, life: &Life) -> Result<Move, Ending>
         requires line { HasLine self.old.held len }
-        requires few { self.old.bytes ≤ most_bytes }
+        requires few { self.old.bytes ≤ most_log_bytes }
         requires lines { self.old.lines + length self.old.held ≤ self.old.bytes }
         requires held { length self.old.held < len + 1 + 4096 }
         ensures { TakesNext self.old self.new len (life_of life.now) result }
@@ -167,7 +167,7 @@ fn held_len(held: &Held) -> usize
 
 /// The end of a log, after so many whole lines: nothing may be left.
 fn last_line(held: &Held, lines: u64) -> Ending
-    requires { lines ≤ most_bytes }
+    requires { lines ≤ most_log_bytes }
     ensures whole { held.now ≡ [] → result ≡ Ending.Yes }
     ensures cut { 0 < length held.now → result ≡ Ending.No (lines + 1) None }
 {

@@ -1,7 +1,7 @@
 ghost use Rattle.std.specs.Prelude.{◌≡◌, ◌≤◌, ◌+◌, ◌∷◌, ◌++◌, [], List, ℕ, length};
 ghost use Rattle.mm_move_rules.specs.{numbered};
 ghost use Rattle.mm_replay.specs.Standing.{life};
-ghost use Rattle.mm_log_check.specs.{check_text, held_text, yes_text, text_of, status_of};
+ghost use Rattle.mm_log_check.specs.{check_text, held_text, yes_text, verdict_text, log_status_of};
 
 use crate::checks::Checker;
 use crate::endings::{Asked, Ending};
@@ -91,7 +91,7 @@ fn yes_text(asked: Asked, checker: &Checker) -> LineBuf
 
 /// The text of an ending; none where a read failed or memory was refused.
 pub(crate) fn text_of(asked: Asked, ending: Ending, checker: &Checker) -> LineBuf
-    ensures { result ≡ text_of asked ending checker.now.tally.counts (life checker.now.life) }
+    ensures { result ≡ verdict_text asked ending checker.now.tally.counts (life checker.now.life) }
 {
     match ending {
         Ending::Yes => yes_text(asked, checker),
@@ -104,7 +104,7 @@ pub(crate) fn text_of(asked: Asked, ending: Ending, checker: &Checker) -> LineBu
 
 /// The status of an ending.
 pub(crate) fn status_of(ending: Ending) -> u8
-    ensures { result ≡ status_of ending }
+    ensures { result ≡ log_status_of ending }
 {
     match ending {
         Ending::Yes => 0,

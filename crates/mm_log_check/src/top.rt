@@ -1,9 +1,9 @@
 ghost use Rattle.std.specs.Prelude.{◌≡◌, ◌≢◌, ◌⊎◌, ◌≤◌, ◌<◌, ◌+◌, ◌++◌, ℕ, List, Option, Some, map, length, IfOk, IfSome, OnOk, string_bytes, is_err};
-ghost use Rattle.mm_types.specs.{Rose, Appended, Move};
-ghost use Rattle.mm_io.specs.{CountsFaults, Wrote};
+ghost use Rattle.mm_types.specs.{Appended, Move};
+ghost use Rattle.mm_io.specs.{CountsFaults, Wrote, sink_seen};
 ghost use Rattle.mm_move_rules.specs.{FrameLife, unstarted, IsSpelled, AreMoves, spelled_moves, Replays, counts_of_log};
-ghost use Rattle.mm_log_check.specs.{Asked, Asks, IsForm, usage_text, yes_text, most_bytes, Shows, LogCheckRan, IsRefusedLog, IsStuck, IsFaultStatus};
-ghost use Rattle.mm_log_check.specs.{SaysYes, SaysNo};
+ghost use Rattle.mm_log_check.specs.{Asked, Asks, IsForm, usage_text, yes_text, most_log_bytes, Shows, LogCheckRan, IsRefusedLog, IsStuck, IsFaultStatus};
+ghost use Rattle.mm_log_check.specs.{SaysYes, SaysNo, Blames, WritesText};
 
 use crate::checks::{Checker, check_log};
 use crate::endings::{Asked, Ending};
@@ -69,10 +69,8 @@ pub fn write_flushed<O: Sink>(out: &mut O, text: &[u8]) -> Result<(), Failed>
 pub fn write_text<O: Sink>(out: &mut O, text: &[u8], status: u8) -> u8
     requires { status ≢ 5 }
     ensures shows { Shows (O.taken out.old) (O.taken out.new) text.now status result }
-    ensures later { O.faults out.old ≤ O.faults out.new }
-    ensures blame { result ≡ 5 → Rose (O.faults out.old) (O.faults out.new) }
+    ensures counts { Blames 5 (O.faults out.old) (O.faults out.new) result }
     ensures other { result ≢ 5 → result ≡ status }
-    ensures same { result ≢ 5 → O.faults out.new ≡ O.faults out.old }
     ensures gave { result ≢ 5 → 0 < length text.now → O.given out.new ≡ O.taken out.new }
 {
     if text.is_empty() {
@@ -88,13 +86,9 @@ pub fn write_text<O: Sink>(out: &mut O, text: &[u8], status: u8) -> u8
 fn answer<S: Source, O: Sink>(alloc: Global, asked: Asked, source: &mut S, out: &mut O) -> u8
     ensures ran { LogCheckRan asked (S.left source.old) (S.left source.new) (O.taken out.old)
         (O.taken out.new) result }
-    ensures source_later { S.faults source.old ≤ S.faults source.new }
-    ensures out_later { O.faults out.old ≤ O.faults out.new }
-    ensures read_fault { result ≡ 4 → Rose (S.faults source.old) (S.faults source.new) }
-    ensures out_fault { result ≡ 5 → Rose (O.faults out.old) (O.faults out.new) }
-    ensures source_same { result ≢ 4 → S.faults source.new ≡ S.faults source.old }
-    ensures out_same { result ≢ 5 → O.faults out.new ≡ O.faults out.old }
-    ensures gave { (IsFaultStatus result → ⊥) → O.given out.new ≡ O.taken out.new }
+    ensures source { Blames 4 (S.faults source.old) (S.faults source.new) result }
+    ensures sink { WritesText IsFaultStatus (sink_seen O.Sink out.old) (sink_seen O.Sink out.new)
+        result }
     ensures no_usage { result ≢ 2 }
 {
     let mut checker = Checker::new(alloc);
@@ -119,12 +113,12 @@ pub fn run_log<S: Source, O: Sink>(
         (O.taken out.old) (O.taken out.new) result }
     ensures yes { (a : Asked) (text : List ℕ) (moves : List Move) (l : FrameLife) →
         Asks (map string_bytes words.now) a → S.left source.old ≡ Some text →
-        length text ≤ most_bytes
+        length text ≤ most_log_bytes
         → IsSpelled moves text → Replays moves unstarted l →
         SaysYes a moves l (O.taken out.old) (O.taken out.new) result ⊎ IsFaultStatus result }
     ensures no { (a : Asked) (text rest : List ℕ) (moves : List Move) (l : FrameLife) →
         Asks (map string_bytes words.now) a → S.left source.old ≡ Some text →
-        length text ≤ most_bytes
+        length text ≤ most_log_bytes
         → AreMoves moves → text ≡ spelled_moves moves ++ rest → Replays moves unstarted l →
         IsStuck l rest → SaysNo (length moves + 1) (O.taken out.old) (O.taken out.new) result ⊎
         IsFaultStatus result }
@@ -137,16 +131,9 @@ pub fn run_log<S: Source, O: Sink>(
     ensures unread { (IsForm (map string_bytes words.now) → ⊥) →
         S.left source.new ≡ S.left source.old }
     ensures form { IsForm (map string_bytes words.now) → result ≢ 2 }
-
-    // The counts of faults never fall, and a fault is blamed where its count rose, and only there.
-    // With a status that blames nothing the sink has given on all that it took.
-    ensures source_later { S.faults source.old ≤ S.faults source.new }
-    ensures out_later { O.faults out.old ≤ O.faults out.new }
-    ensures read_fault { result ≡ 4 → Rose (S.faults source.old) (S.faults source.new) }
-    ensures out_fault { result ≡ 5 → Rose (O.faults out.old) (O.faults out.new) }
-    ensures source_same { result ≢ 4 → S.faults source.new ≡ S.faults source.old }
-    ensures out_same { result ≢ 5 → O.faults out.new ≡ O.faults out.old }
-    ensures gave { (IsFaultStatus result → ⊥) → O.given out.new ≡ O.taken out.new }
+    ensures source { Blames 4 (S.faults source.old) (S.faults source.new) result }
+    ensures sink { WritesText IsFaultStatus (sink_seen O.Sink out.old) (sink_seen O.Sink out.new)
+        result }
 {
     match asked(alloc, words) {
         Ok(Some(asked)) => answer(alloc, asked, source, out),

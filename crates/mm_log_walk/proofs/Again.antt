@@ -3,11 +3,11 @@ use Rattle.std.proofs.Common.{◌≡◌, ℕ, true, false, cond, [], ◌∷◌, 
 use Rattle.std.specs.Prelude.{◌==◌, ◌&&◌, codes}
 use Rattle.std.proofs.lemmas.Bool.{ne_eqb, eqb-true, and_parts}
 use Rattle.mm_types.specs.{Text}
-use Rattle.mm_log_walk.specs.{is_plain, shown_byte, answer_data, answer_of}
+use Rattle.mm_log_walk.specs.{is_plain_byte, shown_byte, answer_data, answer_of}
 
 no_tab : (c : ℕ) → (shown_byte c == 9) ≡ false
-no_tab c = elim (is_plain c) as (λ b. is_plain c ≡ b → (cond b c 63 == 9) ≡ false) [
-  | true ↦ λ h. ne_eqb c 9 (λ same. (let bad : true ≡ false = sym h ∙ ap is_plain same in cc))
+no_tab c = elim (is_plain_byte c) as (λ b. is_plain_byte c ≡ b → (cond b c 63 == 9) ≡ false) [
+  | true ↦ λ h. ne_eqb c 9 (λ same. (let bad : true ≡ false = sym h ∙ ap is_plain_byte same in cc))
   | false ↦ λ h. refl
 ] refl
 

@@ -7,7 +7,7 @@ use Rattle.mm_types.specs.declared.moves.Move.TheVariants as move
 use Rattle.mm_move_rules.specs.{FrameLife, set_of, is_access, is_unbind, touches, is_at_max, is_short, after_move}
 use Rattle.mm_move_classes.specs.{MarksOf, marks_after, class_of, is_trim, makes_way, maps_into, next_of, classes_from, Class}
 use Rattle.mm_move_classes.specs.declared.classes.Class.TheVariants as class
-use Rattle.mm_log_walk.specs.{pending, classed, class_then, move_of, class_list, classes_rest, Pending}
+use Rattle.mm_log_walk.specs.{pending_class, classed, class_then, move_of, class_list, classes_rest, Pending}
 
 same_true : (n : ℕ) → (n == n) ≡ true
 same_true n = eq-eqb n n refl
@@ -27,7 +27,7 @@ by_next : (l : FrameLife) (place : Place) (maps there : Bool) → there ≡ true
 by_next l place true there e = ap (λ b. Some (unmap_class l place b)) e
 by_next l place false there e = refl
 
-pub class_known : (l : FrameLife) (v : MarksOf) (before : Option Move) (m : Move) (next : Option Move) → (classed (pending l v before m) next).class ≡ class_of l v before m next
+pub class_known : (l : FrameLife) (v : MarksOf) (before : Option Move) (m : Move) (next : Option Move) → (classed (pending_class l v before m) next).class ≡ class_of l v before m next
 class_known l v before (move.At n k) next = refl
 class_known l v before (move.Add k b) next = refl
 class_known l v before (move.Drop k) next = refl
@@ -46,6 +46,6 @@ class_known l v before (move.Lost f) next = refl
 
 -- the classes that come, where one more move was taken
 pub classes_taken : (l : FrameLife) (v : MarksOf) (p : Option Pending) (m : Move) (ms : List Move)
-    → class_list (class_then p (Some m)) ++ classes_rest (marks_after v m) (Some (pending l v (move_of p) m)) (after_move l m) ms ≡ classes_rest v p l (m ∷ ms)
+    → class_list (class_then p (Some m)) ++ classes_rest (marks_after v m) (Some (pending_class l v (move_of p) m)) (after_move l m) ms ≡ classes_rest v p l (m ∷ ms)
 classes_taken l v p m ms =
     ap (λ (c : Option Class). class_list (class_then p (Some m)) ++ (c ∷ classes_from (after_move l m) (marks_after v m) (Some m) ms)) (class_known l v (move_of p) m (next_of ms))

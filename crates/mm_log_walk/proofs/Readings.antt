@@ -11,7 +11,7 @@ use Rattle.mm_log_check.specs.{IsStuck, StuckBefore, SpellsMove, SpellsBefore, L
 use Rattle.mm_log_check.proofs.{Ended, in_front, no_more, one_reading, taken_told, end_told}
 use Rattle.mm_log_check.specs.declared.endings.Ending.TheVariants as ending
 use Rattle.mm_log_walk.specs.{Beside, fits, AreFit, ClosesAt, Said, Why, close_words, closing_text, closing_status, HasTold, HasBegun, Answers}
-use Rattle.mm_log_walk.specs.{IsBroken, Says, ToldInPart, IsWhole, IsCut, IsMisfitAt, SaysExactly, Closing, is_broken, misfit_closing, surplus}
+use Rattle.mm_log_walk.specs.{IsBroken, EndsSaying, ToldInPart, IsWhole, IsCutLog, IsMisfitAt, SaysExactly, Closing, is_broken, misfit_closing, surplus}
 use Rattle.mm_log_walk.specs.{whole_closing, fits_script, Misfits, Sought, sought_status, sought_words}
 use Rattle.mm_log_walk.specs.declared.closings.Closing.TheVariants as closing
 
@@ -102,7 +102,7 @@ module _ (side : Beside) (left left' : Option Text) (ms : List Move) (l : FrameL
         prefix_reading moves ms [] (held ++ t.0) unstarted w.life l w.spelled.in_range lines.in_range w.replays replays (inl refl)
         (append_nil (spelled_moves moves) ∙ sym w.spelled.text ∙ t.1.1)
 
-    in_cut : (moves : List Move) → IsCut side left moves → Behind ms moves
+    in_cut : (moves : List Move) → IsCutLog side left moves → Behind ms moves
     in_cut moves w =
         let t = lines_told left left' held ms total w.text lines w.told in
         prefix_reading moves ms w.rest (held ++ t.0) unstarted w.life l w.in_range lines.in_range w.replays replays (inr w.stuck) (sym w.whole ∙ t.1.1)
@@ -123,7 +123,7 @@ module _ (side : Beside) (left left' : Option Text) (ms : List Move) (l : FrameL
       let one : ms ≡ moves = sym (one_reading moves ms [] [] unstarted w.life l w.spelled.in_range stop.lines.in_range w.replays replays (inl refl) (inl refl) same).0 in
       (one, replays_one ms unstarted l w.life replays (subst (λ (zs : List Move). Replays zs unstarted w.life) (sym one) w.replays))
 
-  yes_cut : Stops left left' ms l ending.Yes → (moves : List Move) → IsCut side left moves → ⊥
+  yes_cut : Stops left left' ms l ending.Yes → (moves : List Move) → IsCutLog side left moves → ⊥
   yes_cut stop moves w =
       let t = lines_told left left' stop.held ms stop.total w.text stop.lines w.told in
       let end : t.0 ≡ [] = end_told left' t.0 t.1.0 stop.ends.1 in
@@ -152,7 +152,7 @@ module _ (side : Beside) (left left' : Option Text) (ms : List Move) (l : FrameL
       let one = one_reading moves ms [] (stop.held ++ t.0) unstarted w.life l w.spelled.in_range stop.lines.in_range w.replays replays (inl refl) (inr stuck) same in
       absurd (omega (arith, stuck.some, ap length one.1))
 
-  no_cut : (n : ℕ) (o : Option Move) → Stops left left' ms l (ending.No n o) → (moves : List Move) (w : IsCut side left moves)
+  no_cut : (n : ℕ) (o : Option Move) → Stops left left' ms l (ending.No n o) → (moves : List Move) (w : IsCutLog side left moves)
       → (closing.Ended (ending.No n o) ≡ closing.Ended (ending.No (length moves + 1) w.refused)) × (ms ≡ moves) × (l ≡ w.life)
   no_cut n o stop moves w =
       let t = lines_told left left' stop.held ms stop.total w.text stop.lines w.told in
@@ -185,7 +185,7 @@ module _ (side : Beside) (left left' : Option Text) (ms : List Move) (l : FrameL
       let h = prefix_reading moves (ms ++ m ∷ []) [] (bad.held ++ t.0) unstarted w.life (after_move l m) w.spelled.in_range bad.lines.in_range w.replays (replays_then ms (m ∷ []) unstarted l (after_move l m) replays (bad.legal, refl)) (inl refl) same in
       no_misfit side moves ms m h.0 w.fit bad.misfit h.1
 
-  misfit_cut : (c : Closing) → Misfits left left' side ms l c → (moves : List Move) → IsCut side left moves → ⊥
+  misfit_cut : (c : Closing) → Misfits left left' side ms l c → (moves : List Move) → IsCutLog side left moves → ⊥
   misfit_cut c bad moves w =
       let m = move.At bad.line bad.kind in
       let t = lines_told left left' bad.held (ms ++ m ∷ []) bad.total w.text bad.lines w.told in
@@ -223,7 +223,7 @@ module _ (side : Beside) (left left' : Option Text) (ms : List Move) (l : FrameL
   whole_at (closing.Misfit n) f bad moves w = absurd (misfit_whole (closing.Misfit n) bad moves w)
   whole_at (closing.Answer n) f bad moves w = absurd (misfit_whole (closing.Answer n) bad moves w)
 
-  cut_at : (c : Closing) → is_broken c ≡ false → ClosesAt c left left' side ms l → (moves : List Move) (w : IsCut side left moves)
+  cut_at : (c : Closing) → is_broken c ≡ false → ClosesAt c left left' side ms l → (moves : List Move) (w : IsCutLog side left moves)
       → ((c ≡ closing.Ended (ending.No (length moves + 1) w.refused)) × (ms ≡ moves) × (l ≡ w.life)) ⊎ Failed c ms moves
   cut_at (closing.Ended ending.Yes) f at moves w = absurd (yes_cut at.stop moves w)
   cut_at (closing.Surplus n) f at moves w = absurd (yes_cut at.stop moves w)
@@ -271,11 +271,11 @@ misfit_six sought l n false = refl
 module _ (side : Beside) (sought : Sought) (said : Said) (why : Why) (left left' took took' : Option Text) (result : ℕ) where
   -- the log was told to such an end
   says_at : (t : HasTold left left' took took' side sought said why result) → (c : Closing) (moves : List Move) (status : ℕ) (text : Text) → t.closing ≡ c → closing_status sought t.life c ≡ status
-      → closing_text sought said why t.life t.moves c ≡ text → Says took took' result status text
+      → closing_text sought said why t.life t.moves c ≡ text → EndsSaying took took' result status text
   says_at t c moves status text e s x =
-      subst (λ (z : Text). Says took took' result status z) x
-      (subst (λ (k : ℕ). Says took took' result k (closing_text sought said why t.life t.moves c)) s
-      (subst (λ (d : Closing). Says took took' result (closing_status sought t.life d) (closing_text sought said why t.life t.moves d)) e t.says))
+      subst (λ (z : Text). EndsSaying took took' result status z) x
+      (subst (λ (k : ℕ). EndsSaying took took' result k (closing_text sought said why t.life t.moves c)) s
+      (subst (λ (d : Closing). EndsSaying took took' result (closing_status sought t.life d) (closing_text sought said why t.life t.moves d)) e t.says))
 
   -- a read failed before
   says_part : (t : HasTold left left' took took' side sought said why result) → (moves : List Move) → Failed t.closing t.moves moves → ToldInPart said moves took took' result
@@ -287,7 +287,7 @@ module _ (side : Beside) (sought : Sought) (said : Said) (why : Why) (left left'
   }
 
   -- it was broken off before
-  says_begun : IsBroken result → (h : HasBegun left left' took took' side said) → (moves : List Move) → Behind h.moves moves → (whole : Bool) (status : ℕ) (words : Text) → Says took took' result status (said whole moves ++ words)
+  says_begun : IsBroken result → (h : HasBegun left left' took took' side said) → (moves : List Move) → Behind h.moves moves → (whole : Bool) (status : ℕ) (words : Text) → EndsSaying took took' result status (said whole moves ++ words)
   says_begun broken h moves behind whole status words =
       let all = h.begins whole behind.0 in
       inr (

@@ -6,11 +6,11 @@ use Rattle.mm_types.proofs.{append_nil, appended_none, appended_then, took_none}
 use Rattle.mm_io.specs.{Wrote}
 use Rattle.mm_move_rules.specs.{FrameLife, unstarted, after_move, IsLegal}
 use Rattle.mm_move_rules.proofs.{replays_then}
-use Rattle.mm_log_check.specs.{most_bytes, IsReadyToRead, Lines, ReadsMoves, Stops, LogReader, Ending}
+use Rattle.mm_log_check.specs.{most_log_bytes, IsReadyToRead, Lines, ReadsMoves, Stops, LogReader, Ending}
 use Rattle.mm_log_check.specs.Reading.{Reading}
 use Rattle.mm_log_check.specs.declared.endings.Ending.TheVariants as ending
-use Rattle.mm_log_walk.specs.{fits, AreFit, Beside, IsMisfit, RestOf, Poured, Tells, Closes, ClosesAt, BeginsAll, Halts, HasBegun, Said, Why}
-use Rattle.mm_log_walk.specs.{ends_well, close_words, said_by, closing_text, closing_status, HasTold, Closing, IsBroken, Says, is_broken, surplus}
+use Rattle.mm_log_walk.specs.{fits, AreFit, Beside, IsMisfit, RestOf, Poured, Tells, Closes, ClosesAt, BeginsAll, HaltsTelling, HasBegun, Said, Why}
+use Rattle.mm_log_walk.specs.{ends_well, close_words, said_from_first, closing_text, closing_status, HasTold, Closing, IsBroken, EndsSaying, is_broken, surplus}
 use Rattle.mm_log_walk.specs.{whole_closing, end_closing, fits_script, Misfits, Sought}
 use Rattle.mm_log_walk.specs.declared.closings.Closing.TheVariants as closing
 
@@ -55,12 +55,12 @@ tells_more left mid left' took now took' b r r' rest rest1 l text1 m rest2 l' te
 
 -- in front of what is said of each log that begins with these moves
 begins_all : (rest rest' : RestOf) (moves : List Move) (l : FrameLife) (front kept : Text) → ((whole : Bool) (ms : List Move) → (front ++ kept) ++ rest' whole l ms ≡ rest whole unstarted (moves ++ ms))
-    → (whole : Bool) (more : List Move) → BeginsAll (said_by rest) moves front whole more
+    → (whole : Bool) (more : List Move) → BeginsAll (said_from_first rest) moves front whole more
 begins_all rest rest' moves l front kept told whole more = record { behind = kept ++ rest' whole l more; is_front = sym (told whole more) ∙ append_assoc front kept (rest' whole l more) }
 
 -- memory was refused for the next move's line
 begun_stop : (left mid left' took took' : Option Text) (b : Beside) (r : LogReader) (rest rest' : RestOf) (l : FrameLife) (kept : Text) (e : Ending)
-    → (s : Tells left mid took took' b r rest rest' l kept) → Stops left left' s.moves l e → HasBegun left left' took took' b (said_by rest)
+    → (s : Tells left mid took took' b r rest rest' l kept) → Stops left left' s.moves l e → HasBegun left left' took took' b (said_from_first rest)
 begun_stop left mid left' took took' b r rest rest' l kept e s stop = record {
   moves = s.moves;
   life = l;
@@ -82,7 +82,7 @@ closes_at left mid left' took took' b r rest rest' l kept c s at =
 -- the log is whole
 halts_whole : (left mid left' took took' : Option Text) (b : Beside) (r : LogReader) (rest rest' : RestOf) (l : FrameLife) (kept : Text) (o : Option ℕ)
     → (s : Tells left mid took took' b r rest rest' l kept) → Stops left left' s.moves l ending.Yes → surplus b.answers l.line ≡ o
-    → Halts (is_broken (whole_closing o)) left left' took took' b rest (whole_closing o) rest' l kept
+    → HaltsTelling (is_broken (whole_closing o)) left left' took took' b rest (whole_closing o) rest' l kept
 halts_whole left mid left' took took' b r rest rest' l kept None s stop e =
     closes_at left mid left' took took' b r rest rest' l kept (closing.Ended ending.Yes) s (record { stop = stop; close = ap whole_closing (sym e) })
 halts_whole left mid left' took took' b r rest rest' l kept (Some n) s stop e =
@@ -91,7 +91,7 @@ halts_whole left mid left' took took' b r rest rest' l kept (Some n) s stop e =
 -- there is no next move
 pub halts_stop : (left mid left' took took' : Option Text) (b : Beside) (r : LogReader) (rest rest' : RestOf) (l : FrameLife) (kept : Text) (e : Ending)
     → (s : Tells left mid took took' b r rest rest' l kept) → Stops left left' s.moves l e
-    → Halts (is_broken (end_closing b.answers l.line e)) left left' took took' b rest (end_closing b.answers l.line e) rest' l kept
+    → HaltsTelling (is_broken (end_closing b.answers l.line e)) left left' took took' b rest (end_closing b.answers l.line e) rest' l kept
 halts_stop left mid left' took took' b r rest rest' l kept ending.Yes s stop =
     halts_whole left mid left' took took' b r rest rest' l kept (surplus b.answers l.line) s stop refl
 halts_stop left mid left' took took' b r rest rest' l kept (ending.No n m) s stop = closes_at left mid left' took took' b r rest rest' l kept (closing.Ended (ending.No n m)) s stop
@@ -102,16 +102,16 @@ halts_stop left mid left' took took' b r rest rest' l kept ending.NoMemory s sto
 -- the next move does not fit
 halts_misfit : (left mid left' took took' : Option Text) (b : Beside) (r : LogReader) (rest rest' : RestOf) (l : FrameLife) (kept : Text) (x : Bool) (n : ℕ) (c : Closing)
     → (s : Tells left mid took took' b r rest rest' l kept) → Misfits left left' b s.moves l c → c ≡ (if x then closing.Answer n else closing.Misfit n)
-    → Halts (is_broken c) left left' took took' b rest c rest' l kept
+    → HaltsTelling (is_broken c) left left' took took' b rest c rest' l kept
 halts_misfit left mid left' took took' b r rest rest' l kept true n c s bad e =
-    subst (λ (z : Closing). Halts (is_broken z) left left' took took' b rest z rest' l kept) (sym e)
+    subst (λ (z : Closing). HaltsTelling (is_broken z) left left' took took' b rest z rest' l kept) (sym e)
     (closes_at left mid left' took took' b r rest rest' l kept (closing.Answer n) s (subst (λ (z : Closing). Misfits left left' b s.moves l z) e bad))
 halts_misfit left mid left' took took' b r rest rest' l kept false n c s bad e =
-    subst (λ (z : Closing). Halts (is_broken z) left left' took took' b rest z rest' l kept) (sym e)
+    subst (λ (z : Closing). HaltsTelling (is_broken z) left left' took took' b rest z rest' l kept) (sym e)
     (closes_at left mid left' took took' b r rest rest' l kept (closing.Misfit n) s (subst (λ (z : Closing). Misfits left left' b s.moves l z) e bad))
 
 pub misfit_halts : (left mid left' took took' : Option Text) (b : Beside) (r r' : LogReader) (rest rest' : RestOf) (l : FrameLife) (kept : Text) (m : Move) (c : Closing)
-    → (s : Tells left mid took took' b r rest rest' l kept) → ReadsMoves left left' r' s.moves l m → IsMisfit b m c → Halts (is_broken c) left left' took took' b rest c rest' l kept
+    → (s : Tells left mid took took' b r rest rest' l kept) → ReadsMoves left left' r' s.moves l m → IsMisfit b m c → HaltsTelling (is_broken c) left left' took took' b rest c rest' l kept
 misfit_halts left mid left' took took' b r r' rest rest' l kept m c s reads bad =
     halts_misfit left mid left' took took' b r rest rest' l kept (fits_script b.script bad.line bad.kind) bad.line c s (record {
       line = bad.line;
@@ -126,7 +126,7 @@ misfit_halts left mid left' took took' b r r' rest rest' l kept m c s reads bad 
 
 -- memory was refused for a move that was read and fits
 pub begun_take : (left mid left' took took' : Option Text) (b : Beside) (r r' : LogReader) (rest rest1 : RestOf) (l : FrameLife) (text1 : Text) (m : Move)
-    → (s : Tells left mid took took' b r rest rest1 l text1) → ReadsMoves left left' r' s.moves l m → fits b m ≡ true → HasBegun left left' took took' b (said_by rest)
+    → (s : Tells left mid took took' b r rest rest1 l text1) → ReadsMoves left left' r' s.moves l m → fits b m ≡ true → HasBegun left left' took took' b (said_from_first rest)
 begun_take left mid left' took took' b r r' rest rest1 l text1 m s n fit = record {
   moves = s.moves ++ m ∷ [];
   life = after_move l m;
@@ -147,7 +147,7 @@ begun_take left mid left' took took' b r r' rest rest1 l text1 m s n fit = recor
 -- a write failed behind a move that was told
 pub begun_pour : (left mid left' took now took' : Option Text) (b : Beside) (r r' : LogReader) (rest rest1 : RestOf) (l : FrameLife) (text1 : Text) (m : Move) (rest2 : RestOf) (l' : FrameLife) (text2 : Text)
     → (s : Tells left mid took now b r rest rest1 l text1) → ReadsMoves left left' r' s.moves l m → fits b m ≡ true
-    → ((whole : Bool) (ms : List Move) → text2 ++ rest2 whole l' ms ≡ text1 ++ rest1 whole l (m ∷ ms)) → Wrote now took' text2 true → HasBegun left left' took took' b (said_by rest)
+    → ((whole : Bool) (ms : List Move) → text2 ++ rest2 whole l' ms ≡ text1 ++ rest1 whole l (m ∷ ms)) → Wrote now took' text2 true → HasBegun left left' took took' b (said_from_first rest)
 begun_pour left mid left' took now took' b r r' rest rest1 l text1 m rest2 l' text2 s n fit step w = record {
   moves = s.moves ++ m ∷ [];
   life = after_move l m;
@@ -179,25 +179,25 @@ module _ (left left' took now : Option Text) (b : Beside) (rest : RestOf) (sough
   abbrev pub closed : Text
   closed = (kept ++ rest' (ends_well c) l []) ++ close_words sought why l c
 
-  whole_text : s.written ++ closed ≡ closing_text sought (said_by rest) why l s.moves c
+  whole_text : s.written ++ closed ≡ closing_text sought (said_from_first rest) why l s.moves c
   whole_text =
       let ended : Text = rest' (ends_well c) l [] in
       let words : Text = close_words sought why l c in
       sym (append_assoc s.written (kept ++ ended) words)
       ∙ ap (λ xs. xs ++ words) (sym (append_assoc s.written kept ended) ∙ s.told (ends_well c) [] ∙ ap (λ (ms : List Move). rest (ends_well c) unstarted ms) (append_nil s.moves))
 
-  told_with : (took' : Option Text) (status : ℕ) → Says took took' status (closing_status sought l c) (closing_text sought (said_by rest) why l s.moves c) → HasTold left left' took took' b sought (said_by rest) why status
+  told_with : (took' : Option Text) (status : ℕ) → EndsSaying took took' status (closing_status sought l c) (closing_text sought (said_from_first rest) why l s.moves c) → HasTold left left' took took' b sought (said_from_first rest) why status
   told_with took' status says = record { closing = c; fine = fine; moves = s.moves; life = l; replays = s.replays; fit = s.fit; at = s.at; says = says }
 
   -- all of it was written
-  pub told_all : (took' : Option Text) (text : Text) → text ≡ closed → Wrote now took' text false → HasTold left left' took took' b sought (said_by rest) why (closing_status sought l c)
+  pub told_all : (took' : Option Text) (text : Text) → text ≡ closed → Wrote now took' text false → HasTold left left' took took' b sought (said_from_first rest) why (closing_status sought l c)
   told_all took' text end w =
       let last : Appended now took' text = subst (λ (x : Text). Appended now took' x) (w.all refl) w.written in
       told_with took' (closing_status sought l c)
       (inl (refl, subst (λ (x : Text). Appended took took' x) (ap (λ xs. s.written ++ xs) end ∙ whole_text) (appended_then took now took' s.written text s.appended last)))
 
   -- a write failed
-  pub told_cut : (took' : Option Text) (text : Text) → text ≡ closed → Wrote now took' text true → HasTold left left' took took' b sought (said_by rest) why 5
+  pub told_cut : (took' : Option Text) (text : Text) → text ≡ closed → Wrote now took' text true → HasTold left left' took took' b sought (said_from_first rest) why 5
   told_cut took' text end w =
       told_with took' 5 (inr (
         inr refl,
@@ -211,7 +211,7 @@ module _ (left left' took now : Option Text) (b : Beside) (rest : RestOf) (sough
       ))
 
   -- memory was refused for it
-  pub told_none : HasTold left left' took now b sought (said_by rest) why 1
+  pub told_none : HasTold left left' took now b sought (said_from_first rest) why 1
   told_none =
       told_with now 1 (inr (inl refl, record { front = s.written; rest = closed; whole = sym whole_text; written = s.appended; all = no_claim _ _ }))
 
@@ -244,7 +244,7 @@ begun_none left took b said = record {
 
 -- so many lines have more bytes than a log may have
 pub closes_full : (left left' took took' : Option Text) (b : Beside) (r : LogReader) (rest rest' : RestOf) (l : FrameLife) (kept : Text)
-    → IsReadyToRead r → most_bytes < r.lines → Closes left left' took took' b rest (closing.Ended ending.TooLong) rest' l kept
+    → IsReadyToRead r → most_log_bytes < r.lines → Closes left left' took took' b rest (closing.Ended ending.TooLong) rest' l kept
 closes_full left left' took took' b r rest rest' l kept ready many = absurd (omega (arith, ready.few, ready.lines, many))
 
 -- nothing of a text was written, or all

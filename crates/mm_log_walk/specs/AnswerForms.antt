@@ -4,11 +4,9 @@ use Rattle.std.specs.Prelude.{ℕ, Bool, true, false, ◌&&◌, ◌||◌, not, n
 use Rattle.std.specs.Prelude.{if◌then◌else◌, [], ◌∷◌, Option, Some, None}
 use Rattle.mm_types.specs.{Text}
 use Rattle.mm_log_walk.specs.Words.{is_access_word, is_thread_word}
+use Rattle.mm_replay.specs.{is_digit}
 
 -- ---- a text of a form
-
-abbrev pub is_digit : ℕ → Bool
-is_digit c = nat_le 0x30 c && nat_le c 0x39
 
 abbrev pub is_hex_digit : ℕ → Bool
 is_hex_digit c = is_digit c || (nat_le 0x41 c && nat_le c 0x46)

@@ -62,8 +62,8 @@ IsBroken status = (status ≡ 1) ⊎ (status ≡ 5)
 
 -- this status and this text; or memory was refused or a write failed, and a front of the text was
 -- written
-abbrev pub Says : Option Text → Option Text → ℕ → ℕ → Text → Type 0
-Says took took' result status text =
+abbrev pub EndsSaying : Option Text → Option Text → ℕ → ℕ → Text → Type 0
+EndsSaying took took' result status text =
     ((result ≡ status) × Appended took took' text)
     ⊎ (IsBroken result × Wrote took took' text true)
 
@@ -77,7 +77,7 @@ pub record HasTold (left left' took took' : Option Text) (b : Beside) (sought : 
   pub replays : Replays moves unstarted life
   pub fit : AreFit b moves
   pub at : ClosesAt closing left left' b moves life
-  pub says : Says took took' status (closing_status sought life closing)
+  pub says : EndsSaying took took' status (closing_status sought life closing)
       (closing_text sought said why life moves closing)
 
 -- or it was broken off before

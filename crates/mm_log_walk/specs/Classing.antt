@@ -19,8 +19,8 @@ abbrev pub is_made_room : Move → Option Move → Bool
 is_made_room (move.Unmap place) next = maps_into place.pid.0 next
 is_made_room _ next = false
 
-abbrev pub pending : FrameLife → MarksOf → Option Move → Move → Pending
-pending l v before m =
+abbrev pub pending_class : FrameLife → MarksOf → Option Move → Move → Pending
+pending_class l v before m =
     record {
       m = m;
       alone = class_of l v before m None;

@@ -68,9 +68,9 @@ abbrev pub beside : Option (List Text) → Option (List Text) → Beside
 beside script answers = record { script = script; answers = answers }
 
 -- the line of this number, counted from 1
-abbrev pub line_of : Option (List Text) → ℕ → Option Text
-line_of None n = None
-line_of (Some lines) n = slice_get lines (n - 1)
+abbrev pub line_numbered : Option (List Text) → ℕ → Option Text
+line_numbered None n = None
+line_numbered (Some lines) n = slice_get lines (n - 1)
 
 -- ---- the script
 
@@ -98,7 +98,7 @@ answered_among (Some answers) line n = fits_answer line (slice_get answers (n - 
 
 -- the line of this number has an answer that it can have, where answers are named
 abbrev pub is_answered : Beside → ℕ → Bool
-is_answered b n = answered_among b.answers (line_of b.script n) n
+is_answered b n = answered_among b.answers (line_numbered b.script n) n
 
 abbrev pub begins_with : Text → Text → Bool
 begins_with text front = bytes_eq (take (length front) text) front

@@ -10,12 +10,12 @@ pub mod Classing
 pub mod Seeking
 pub mod Answering
 pub mod Exact
-pub use Lines.{lines_from, lines_of}
-pub use Shown.{answer_data, answer_file, answer_line, answer_lines, answer_of, is_plain, shown_byte}
+pub use Lines.{extent_text, lines_from, lines_of}
+pub use Shown.{answer_data, answer_file, answer_line, answer_lines, answer_of, is_plain_byte, shown_byte}
 pub use Shown.{shown_file, shown_line, shown_lines}
 pub use Words.{first_word, is_access_word, is_thread_word}
 pub use AnswerForms.{behind_byte, behind_form, behind_run, can_answer, fits_form, has_address}
-pub use AnswerForms.{has_number, has_two_numbers, is_digit, is_done, is_error, is_hex_digit}
+pub use AnswerForms.{has_number, has_two_numbers, is_done, is_error, is_hex_digit}
 pub use AnswerForms.{is_left, is_list_byte, is_own_word, is_raise, is_refused, is_run, is_wait}
 pub use AnswerForms.{long_form, may_be_busy, may_be_full, may_fault, may_find_nothing, may_raise}
 pub use AnswerForms.{ok_form, stands_for}
@@ -23,17 +23,19 @@ pub use WorkedAnswers.{all_can, fitting_answers, other_answers, ten}
 pub use Fitting.{AreFit, Beside, IsMisfit, begins_with, beside, end_closing, fits, fits_answer}
 pub use Fitting.{fits_line, fits_script, fits_word, is_answered, is_bad_text, is_call_word}
 pub use Fitting.{is_ending_word, is_long_text, is_memory_word, is_refusable_word, is_section_word}
-pub use Fitting.{is_system_word, line_of, misfit_closing, surplus, surplus_among, whole_closing}
-pub use Files.{HasBytes, HasLines, IsRead, ReadsOn, total_of}
-pub use Telling.{BeginsAll, Closes, ClosesAt, Halts, HasBegun, Misfits, Poured, RestOf, Said, Tells}
-pub use Telling.{is_broken, said_by}
-pub use Classing.{class_list, class_then, classed, classes_rest, move_of, pending}
+pub use Fitting.{is_system_word, line_numbered, misfit_closing, surplus, surplus_among, whole_closing}
+pub use Files.{CountsFileFaults, FileFailed, FileWasRead, HasBytes, HasLines, IsRead, ReadsNamed}
+pub use Files.{ReadsOn, file_faults}
+pub use Telling.{BeginsAll, Closes, ClosesAt, HaltsTelling, HasBegun, Misfits, Poured, RestOf, Said, Tells}
+pub use Telling.{is_broken, said_from_first}
+pub use Classing.{class_list, class_then, classed, classes_rest, move_of, pending_class}
 pub use Seeking.{lacks, sought_status, sought_text, sought_words}
-pub use Answering.{Answers, HasTold, IsBroken, Says, Why, close_words, closing_status, closing_text}
+pub use Answering.{Answers, HasTold, IsBroken, EndsSaying, Why, close_words, closing_status, closing_text}
 pub use Answering.{ends_well, no_why, refused_words}
-pub use Exact.{IsCut, IsMisfitAt, IsWhole, SaysExactly, SaysOf, ToldInPart}
+pub use Exact.{IsCutLog, IsMisfitAt, IsWhole, SaysExactly, SaysOf, ToldInPart}
 pub use declared.classifiers.Classed.{Classed}
 pub use declared.classifiers.Pending.{Pending}
 pub use declared.closings.Closing.{Closing}
 pub use declared.files.FileFault.{FileFault}
+pub use declared.lines.Extent.{Extent}
 pub use declared.seeking.Sought.{Sought}

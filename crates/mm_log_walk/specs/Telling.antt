@@ -84,8 +84,8 @@ abbrev pub Said : Type 0
 Said = Bool → List Move → Text
 
 -- what a teller says from the first move on
-abbrev pub said_by : RestOf → Said
-said_by rest whole moves = rest whole unstarted moves
+abbrev pub said_from_first : RestOf → Said
+said_from_first rest whole moves = rest whole unstarted moves
 
 -- this stands in front of what is said of each log that begins with these moves
 pub record BeginsAll (said : Said) (moves : List Move) (front : Text) (whole : Bool)
@@ -113,9 +113,9 @@ is_broken closing.OutFault = true
 is_broken _ = false
 
 -- it came to an end, or not so far
-abbrev pub Halts : Bool → Option Text → Option Text → Option Text → Option Text → Beside → RestOf
+abbrev pub HaltsTelling : Bool → Option Text → Option Text → Option Text → Option Text → Beside → RestOf
     → Closing → RestOf → FrameLife → Text → Type 0
-Halts false left left' took took' b rest c rest' l kept =
+HaltsTelling false left left' took took' b rest c rest' l kept =
     Closes left left' took took' b rest c rest' l kept
-Halts true left left' took took' b rest c rest' l kept =
-    HasBegun left left' took took' b (said_by rest)
+HaltsTelling true left left' took took' b rest c rest' l kept =
+    HasBegun left left' took took' b (said_from_first rest)

@@ -1,5 +1,6 @@
 ghost use Rattle.std.specs.Prelude.{◌≡◌, false, option_map, true};
-ghost use Rattle.mm_log_walk.specs.{all_can, can_answer, fitting_answers, other_answers, ten, is_digit, is_hex_digit, is_list_byte, stands_for};
+ghost use Rattle.mm_log_walk.specs.{all_can, can_answer, fitting_answers, other_answers, ten, is_hex_digit, is_list_byte, stands_for};
+ghost use Rattle.mm_replay.specs.{is_digit};
 ghost use Rattle.mm_log_walk.specs.{is_run, behind_run, behind_byte, fits_form, has_number, has_address, has_two_numbers, long_form, ok_form};
 ghost use Rattle.mm_log_walk.specs.{is_done, is_error, is_own_word, is_raise, is_wait, may_raise, may_find_nothing, may_be_busy, may_be_full};
 ghost use Rattle.mm_log_walk.specs.{may_fault, is_refused, is_left};
@@ -264,10 +265,25 @@ fn is_left(word: &[u8], answer: &[u8]) -> bool
         || (may_fault(word) && is_text(answer, b"fault"))
 }
 
-/// Whether a line with this first word can have this answer.
+/// Whether this is a read or a write that is done.
+#[tactic(auto, using(crate::proofs::AnswersWorked::plainly))]
+fn is_done_plainly(word: &[u8], answer: &[u8]) -> bool
+    ensures { result ≡ true → can_answer word.now answer.now ≡ true }
+{
+    if is_text(word, b"read") {
+        return fits_form(b"ok *", answer);
+    }
+    is_text(word, b"write") && is_text(answer, b"ok")
+}
+
+/// Whether a line with this first word can have this answer. Reads and writes that are done, most
+/// lines, are told first.
 pub(crate) fn can_answer(word: &[u8], answer: &[u8]) -> bool
     ensures { result ≡ can_answer word.now answer.now }
 {
+    if is_done_plainly(word, answer) {
+        return true;
+    }
     is_done(word, answer) || is_refused(word, answer) || is_left(word, answer)
 }
 

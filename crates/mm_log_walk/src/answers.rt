@@ -1,9 +1,10 @@
-ghost use Rattle.std.specs.Prelude.{◌≡◌, ◌≢◌, ◌≤◌, ◌++◌, ◌∷◌, [], length, codes, OnOk};
+ghost use Rattle.std.specs.Prelude.{◌≡◌, ◌≤◌, ◌++◌, ◌∷◌, [], length, codes, OnOk};
 ghost use Rattle.mm_types.specs.{Rose, decimal};
 ghost use Rattle.mm_move_rules.specs.{unstarted, numbered};
 ghost use Rattle.mm_replay.specs.Standing.{life as life_of};
-ghost use Rattle.mm_log_check.specs.{IsFaultStatus};
-ghost use Rattle.mm_log_walk.specs.{is_broken, ends_well, closing_status, close_words, refused_words, said_by, Answers, beside};
+ghost use Rattle.mm_io.specs.{sink_seen};
+ghost use Rattle.mm_log_check.specs.{ReadsLog, WritesText};
+ghost use Rattle.mm_log_walk.specs.{is_broken, ends_well, closing_status, close_words, refused_words, said_from_first, Answers, IsBroken, beside};
 
 use crate::closings::Closing;
 use crate::lines::Lines;
@@ -177,13 +178,11 @@ fn told_on<S: Source, T: Teller, O: Sink>(
     requires life { life_of life.old ≡ unstarted }
     requires counted { T.counted teller.old ≡ 0 }
     ensures answers { Answers (S.left log.old) (S.left log.new) (O.taken out.old) (O.taken out.new)
-        (beside script.now answers.now) sought (said_by (T.rest teller.old)) T.why result }
-    ensures later { (S.faults log.old ≤ S.faults log.new) × (O.faults out.old ≤ O.faults out.new) }
+        (beside script.now answers.now) sought (said_from_first (T.rest teller.old)) T.why result }
+    ensures source { ReadsLog (S.faults log.old) (S.faults log.new) result }
     ensures read_fault { result ≡ 4 → Rose (S.faults log.old) (S.faults log.new) }
-    ensures out_fault { result ≡ 5 → Rose (O.faults out.old) (O.faults out.new) }
-    ensures source_same { (IsFaultStatus result → ⊥) → S.faults log.new ≡ S.faults log.old }
-    ensures out_same { result ≢ 5 → O.faults out.new ≡ O.faults out.old }
-    ensures gave { result ≢ 1 → result ≢ 5 → O.given out.new ≡ O.taken out.new }
+    ensures sink { WritesText IsBroken (sink_seen O.Sink out.old) (sink_seen O.Sink out.new)
+        result }
 {
     let mut text = Vec::new(alloc);
     let closing = tell_log(life, script, answers, log, teller, &mut text, out);
@@ -216,13 +215,11 @@ pub fn answered<S: Source, T: Teller, O: Sink>(
 ) -> u8
     requires { T.counted teller.old ≡ 0 }
     ensures answers { Answers (S.left log.old) (S.left log.new) (O.taken out.old) (O.taken out.new)
-        (beside script.now answers.now) sought (said_by (T.rest teller.old)) T.why result }
-    ensures later { (S.faults log.old ≤ S.faults log.new) × (O.faults out.old ≤ O.faults out.new) }
+        (beside script.now answers.now) sought (said_from_first (T.rest teller.old)) T.why result }
+    ensures source { ReadsLog (S.faults log.old) (S.faults log.new) result }
     ensures read_fault { result ≡ 4 → Rose (S.faults log.old) (S.faults log.new) }
-    ensures out_fault { result ≡ 5 → Rose (O.faults out.old) (O.faults out.new) }
-    ensures source_same { (IsFaultStatus result → ⊥) → S.faults log.new ≡ S.faults log.old }
-    ensures out_same { result ≢ 5 → O.faults out.new ≡ O.faults out.old }
-    ensures gave { result ≢ 1 → result ≢ 5 → O.given out.new ≡ O.taken out.new }
+    ensures sink { WritesText IsBroken (sink_seen O.Sink out.old) (sink_seen O.Sink out.new)
+        result }
 {
     let mut life = Life::new(alloc);
     told_on(&mut life, alloc, script, answers, sought, log, teller, out)

@@ -1,7 +1,7 @@
 ghost use Rattle.std.specs.Prelude.{◌≡◌, OnOk, IfOk, None, Some, option_map};
 ghost use Rattle.mm_replay.specs.Standing.{life as life_of};
 ghost use Rattle.mm_move_classes.specs.{class_of, no_marks, marks_after, marks_of};
-ghost use Rattle.mm_log_walk.specs.Classing.{next_there, is_made_room, pending, class_then, move_of};
+ghost use Rattle.mm_log_walk.specs.Classing.{next_there, is_made_room, pending_class, class_then, move_of};
 ghost use Rattle.mm_log_walk.specs.Classing.{classed};
 
 use mm_move_classes::{Class, Marks, class_of};
@@ -61,27 +61,19 @@ fn class_then(pending: &Option<Pending>, next: Option<&Move>) -> Option<Classed>
     }
 }
 
-fn move_of(pending: &Option<Pending>) -> Option<Move>
-    ensures { result ≡ move_of pending.now }
-{
-    match pending {
-        Some(p) => Some(p.m),
-        None => None,
-    }
-}
-
+/// The class of a move behind the one that waits.
 fn class_between(
     life: &Life,
     marks: &Marks,
-    previous: Option<Move>,
+    pending: &Option<Pending>,
     m: &Move,
     next: Option<&Move>,
 ) -> Option<Class>
-    ensures { result ≡ class_of (life_of life.now) (marks_of marks.now) previous m.now
+    ensures { result ≡ class_of (life_of life.now) (marks_of marks.now) (move_of pending.now) m.now
         (option_map (λ n. n.now) next.entry) }
 {
-    match previous {
-        Some(before) => class_of(life, marks, Some(&before), m, next),
+    match pending {
+        Some(p) => class_of(life, marks, Some(&p.m), m, next),
         None => class_of(life, marks, None, m, next),
     }
 }
@@ -91,17 +83,18 @@ fn class_between(
 fn class_with_room(
     life: &Life,
     marks: &Marks,
-    previous: Option<Move>,
+    pending: &Option<Pending>,
     m: &Move,
     alone: Option<Class>,
 ) -> Option<Class>
-    requires { alone ≡ class_of (life_of life.now) (marks_of marks.now) previous m.now None }
-    ensures { result ≡ class_of (life_of life.now) (marks_of marks.now) previous m.now
+    requires { alone ≡ class_of (life_of life.now) (marks_of marks.now) (move_of pending.now) m.now
+        None }
+    ensures { result ≡ class_of (life_of life.now) (marks_of marks.now) (move_of pending.now) m.now
         (next_there m.now) }
 {
     match *m {
         Move::Unmap(place) => {
-            class_between(life, marks, previous, m, Some(&Move::Map(Frame(0), place)))
+            class_between(life, marks, pending, m, Some(&Move::Map(Frame(0), place)))
         }
         _ => alone,
     }
@@ -130,15 +123,14 @@ impl Classifier {
     pub fn next(&mut self, life: &Life, m: &Move) -> Result<Option<Classed>, NoMemory>
         ensures before { IfOk result (λ r. r ≡ class_then self.old.pending (Some m.now)) }
         ensures pending { OnOk result (self.new.pending
-            ≡ Some (pending (life_of life.now) (marks_of self.old.marks) (move_of self.old.pending)
+            ≡ Some (pending_class (life_of life.now) (marks_of self.old.marks) (move_of self.old.pending)
             m.now)) }
         ensures marks { OnOk result (marks_of self.new.marks
             ≡ marks_after (marks_of self.old.marks) m.now) }
     {
         let before = class_then(&self.pending, Some(m));
-        let previous = move_of(&self.pending);
-        let alone = class_between(life, &self.marks, previous, m, None);
-        let making_room = class_with_room(life, &self.marks, previous, m, alone);
+        let alone = class_between(life, &self.marks, &self.pending, m, None);
+        let making_room = class_with_room(life, &self.marks, &self.pending, m, alone);
         self.marks.follow(m)?;
         self.pending = Some(Pending {
             m: *m,

@@ -1,8 +1,8 @@
-ghost use Rattle.std.specs.Prelude.{◌≡◌, ◌≤◌, ◌⊎◌, ℕ, List, Option, true, false, Some, None};
-ghost use Rattle.std.specs.Prelude.{option_map, IfOk, Ok};
-ghost use Rattle.std.specs.Prelude.{Err};
-ghost use Rattle.mm_types.specs.{Rose, Took};
-ghost use Rattle.mm_log_walk.specs.Files.{IsRead, ReadsOn, HasBytes, HasLines, total_of};
+ghost use Rattle.std.specs.Prelude.{◌≡◌, ℕ, List, Option, true, false, Some, None};
+ghost use Rattle.std.specs.Prelude.{option_map, IfOk, Ok, OnOk};
+ghost use Rattle.mm_types.specs.{IsEnd, Took};
+ghost use Rattle.mm_log_walk.specs.Files.{CountsFileFaults, IsRead, ReadsNamed, ReadsOn, HasBytes};
+ghost use Rattle.mm_log_walk.specs.Files.{HasLines};
 
 use crate::lines::Lines;
 use mm_io::Source;
@@ -21,8 +21,7 @@ pub enum FileFault {
 fn read_more<F: Source>(bytes: &mut Vec<u8>, file: &mut F) -> Result<bool, FileFault>
     ensures more { (left : Option (List ℕ)) → Took left (F.left file.old) bytes.old.items
         → IfOk result (ReadsOn left (F.left file.new) bytes.new.items) }
-    ensures later { F.faults file.old ≤ F.faults file.new }
-    ensures blame { result ≡ Err FileFault.Failed → Rose (F.faults file.old) (F.faults file.new) }
+    ensures counts { CountsFileFaults (F.faults file.old) (F.faults file.new) result }
 {
     let mut room = [0; 4096];
     let count = match file.read(&mut room) {
@@ -39,8 +38,7 @@ fn read_more<F: Source>(bytes: &mut Vec<u8>, file: &mut F) -> Result<bool, FileF
 #[tactic(auto, using(mm_types::proofs::Bytes::took_none))]
 fn read_all<F: Source>(alloc: Global, file: &mut F) -> Result<Vec<u8>, FileFault>
     ensures read { IfOk result (λ v. IsRead (F.left file.old) (F.left file.new) v.items) }
-    ensures later { F.faults file.old ≤ F.faults file.new }
-    ensures blame { result ≡ Err FileFault.Failed → Rose (F.faults file.old) (F.faults file.new) }
+    ensures counts { CountsFileFaults (F.faults file.old) (F.faults file.new) result }
 {
     let mut bytes = Vec::new(alloc);
     for _n in 0..u64::MAX {
@@ -60,12 +58,8 @@ pub fn named_lines<F: Source>(
     file: &mut Option<F>,
 ) -> Result<Option<Lines>, FileFault>
     ensures none { is_named ≡ false → result ≡ Ok None }
-    ensures untouched { is_named ≡ false → file.new ≡ file.old }
     ensures lines { is_named ≡ true → IfOk result (HasLines (option_map F.left file.old)) }
-    ensures missing { is_named ≡ true → file.old ≡ None → result ≡ Err FileFault.Failed }
-    ensures later { total_of F.faults file.old ≤ total_of F.faults file.new }
-    ensures blame { result ≡ Err FileFault.Failed → (file.old ≡ None)
-        ⊎ Rose (total_of F.faults file.old) (total_of F.faults file.new) }
+    ensures file { ReadsNamed F.Source is_named file.old file.new result }
 {
     if !is_named {
         return Ok(None);
@@ -73,7 +67,10 @@ pub fn named_lines<F: Source>(
     let Some(file) = file else {
         return Err(FileFault::Failed);
     };
-    lines_in(alloc, file)
+    match lines_in(alloc, file) {
+        Ok(lines) => Ok(lines),
+        Err(fault) => Err(fault),
+    }
 }
 
 /// The bytes of a file, if it is named; none in `file` stands for one that could not be opened.
@@ -83,13 +80,9 @@ pub fn named_bytes<F: Source>(
     file: &mut Option<F>,
 ) -> Result<Option<Vec<u8>>, FileFault>
     ensures none { is_named ≡ false → result ≡ Ok None }
-    ensures untouched { is_named ≡ false → file.new ≡ file.old }
     ensures bytes { is_named ≡ true → IfOk result (λ o. HasBytes (option_map F.left file.old)
         (option_map (λ v. v.items) o)) }
-    ensures missing { is_named ≡ true → file.old ≡ None → result ≡ Err FileFault.Failed }
-    ensures later { total_of F.faults file.old ≤ total_of F.faults file.new }
-    ensures blame { result ≡ Err FileFault.Failed → (file.old ≡ None)
-        ⊎ Rose (total_of F.faults file.old) (total_of F.faults file.new) }
+    ensures file { ReadsNamed F.Source is_named file.old file.new result }
 {
     if !is_named {
         return Ok(None);
@@ -106,11 +99,11 @@ pub fn named_bytes<F: Source>(
 /// The lines of a file from here to its end.
 fn lines_in<F: Source>(alloc: Global, file: &mut F) -> Result<Option<Lines>, FileFault>
     ensures lines { IfOk result (HasLines (Some (F.left file.old))) }
-    ensures later { F.faults file.old ≤ F.faults file.new }
-    ensures blame { result ≡ Err FileFault.Failed → Rose (F.faults file.old) (F.faults file.new) }
+    ensures end { OnOk result (IsEnd (F.left file.new)) }
+    ensures counts { CountsFileFaults (F.faults file.old) (F.faults file.new) result }
 {
     let bytes = read_all(alloc, file)?;
-    match Lines::of(alloc, bytes.as_slice()) {
+    match Lines::of(alloc, bytes) {
         Ok(lines) => Ok(Some(lines)),
         Err(NoMemory) => Err(FileFault::NoMemory),
     }

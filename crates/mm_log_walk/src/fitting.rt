@@ -2,7 +2,7 @@ ghost use Rattle.std.specs.Prelude.{◌≡◌, true, false, MatchOption, option_
 ghost use Rattle.mm_types.specs.declared.moves.Move.TheVariants as move;
 ghost use Rattle.mm_log_walk.specs.{is_ending_word, is_section_word, is_memory_word, is_system_word, is_refusable_word, is_call_word, fits_word};
 ghost use Rattle.mm_log_walk.specs.{fits_line, fits, IsMisfit, beside, end_closing, fits_answer, fits_script, is_answered, is_bad_text, is_long_text};
-ghost use Rattle.mm_log_walk.specs.{line_of, misfit_closing, surplus, surplus_among};
+ghost use Rattle.mm_log_walk.specs.{line_numbered, misfit_closing, surplus, surplus_among};
 
 use crate::answer_forms::can_answer;
 use crate::closings::Closing;
@@ -109,7 +109,7 @@ fn fits_script(script: &Option<Lines>, n: u32, kind: LineKind) -> bool
 
 /// The line of this number, counted from 1.
 fn line_of(script: &Option<Lines>, n: u32) -> Option<&[u8]>
-    ensures { option_map (λ l. l.now) result ≡ line_of script.now n }
+    ensures { option_map (λ l. l.now) result ≡ line_numbered script.now n }
 {
     match script {
         Some(lines) => lines.get((n as usize).saturating_sub(1)),

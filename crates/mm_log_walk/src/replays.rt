@@ -4,7 +4,7 @@ ghost use Rattle.mm_types.specs.{Move, Rose};
 ghost use Rattle.mm_move_rules.specs.{unstarted, IsLegal, after_move};
 ghost use Rattle.mm_replay.specs.Standing.{life as life_of};
 ghost use Rattle.mm_log_check.specs.{Ending, IsReadyToRead};
-ghost use Rattle.mm_log_walk.specs.{RestOf, Tells, Halts, beside, is_broken};
+ghost use Rattle.mm_log_walk.specs.{RestOf, Tells, HaltsTelling, beside, is_broken};
 
 use crate::closings::Closing;
 use crate::fitting::{end_closing, misfit};
@@ -54,7 +54,7 @@ fn next<S: Source, T: Teller, O: Sink>(
         → MatchResult result
         (λ u. Tells left (S.left source.new) took (O.taken out.new) (beside script.now answers.now)
         reader.new rest (T.rest teller.new) (life_of life.new) text.new.items)
-        (λ c. Halts (is_broken c) left (S.left source.new) took (O.taken out.new)
+        (λ c. HaltsTelling (is_broken c) left (S.left source.new) took (O.taken out.new)
         (beside script.now answers.now) rest c (T.rest teller.new) (life_of life.new)
         text.new.items) }
     ensures ready { OnOk result
@@ -104,7 +104,7 @@ pub(crate) fn tell_log<S: Source, T: Teller, O: Sink>(
     requires life { life_of life.old ≡ unstarted }
     requires counted { T.counted teller.old ≡ 0 }
     requires none { text.old.items ≡ [] }
-    ensures halts { Halts (is_broken result) (S.left source.old) (S.left source.new)
+    ensures halts { HaltsTelling (is_broken result) (S.left source.old) (S.left source.new)
         (O.taken out.old) (O.taken out.new) (beside script.now answers.now)
         (T.rest teller.old) result (T.rest teller.new) (life_of life.new) text.new.items }
     ensures later { (S.faults source.old ≤ S.faults source.new) ×

@@ -1,13 +1,13 @@
 ghost use Rattle.std.specs.Prelude.{◌≡◌, ◌++◌, map, take, OnOk};
 ghost use Rattle.mm_types.specs.{Text};
-ghost use Rattle.mm_log_walk.specs.{is_plain, shown_byte, shown_line, shown_lines, shown_file, answer_data, answer_line, answer_lines, answer_file};
-ghost use Rattle.mm_log_walk.specs.{answer_of};
+ghost use Rattle.mm_log_walk.specs.{is_plain_byte, shown_byte, shown_line, shown_lines, shown_file, answer_data, answer_line, answer_lines, answer_file};
+ghost use Rattle.mm_log_walk.specs.{answer_of, extent_text};
 
-use crate::lines::Lines;
+use crate::lines::{Extent, Lines, extent_text};
 use mm_types::NoMemory;
 
 fn is_plain(byte: u8) -> bool
-    ensures { result ≡ is_plain byte }
+    ensures { result ≡ is_plain_byte byte }
 {
     byte >= 32 && byte <= 126 && !(byte == b'&' || byte == b'<')
 }
@@ -44,12 +44,16 @@ pub fn put_line(line: &[u8], text: &mut Vec<u8>) -> Result<(), NoMemory>
 }
 
 /// Writes lines as the page's data has them.
-pub(crate) fn put_lines(lines: &[Vec<u8>], text: &mut Vec<u8>) -> Result<(), NoMemory>
+pub(crate) fn put_lines(
+    bytes: &[u8],
+    extents: &[Extent],
+    text: &mut Vec<u8>,
+) -> Result<(), NoMemory>
     ensures { OnOk result (text.new.items ≡ text.old.items
-        ++ shown_lines (map (λ v. v.items) lines.now)) }
+        ++ shown_lines (map (extent_text bytes.now) extents.now)) }
 {
-    for line in lines {
-        put_line(line.as_slice(), text)?;
+    for at in extents {
+        put_line(extent_text(bytes, *at), text)?;
     }
     Ok(())
 }
@@ -87,12 +91,16 @@ fn put_answer(answer: &[u8], text: &mut Vec<u8>) -> Result<(), NoMemory>
 }
 
 /// Writes answers as the page's data has them.
-pub(crate) fn put_answer_lines(answers: &[Vec<u8>], text: &mut Vec<u8>) -> Result<(), NoMemory>
+pub(crate) fn put_answer_lines(
+    bytes: &[u8],
+    extents: &[Extent],
+    text: &mut Vec<u8>,
+) -> Result<(), NoMemory>
     ensures { OnOk result (text.new.items ≡ text.old.items
-        ++ answer_lines (map (λ v. v.items) answers.now)) }
+        ++ answer_lines (map (extent_text bytes.now) extents.now)) }
 {
-    for answer in answers {
-        put_answer(answer.as_slice(), text)?;
+    for at in extents {
+        put_answer(extent_text(bytes, *at), text)?;
     }
     Ok(())
 }

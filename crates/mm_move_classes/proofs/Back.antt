@@ -11,7 +11,7 @@ use Rattle.mm_types.specs.declared.moves.Stored.TheVariants as stored
 use Rattle.mm_move_rules.specs.{FrameLife, unstarted, counts_of, IsLegal, is_touch, after_move, IsMove, AreMoves, Replays}
 use Rattle.mm_move_classes.specs.{MarksOf, no_marks, marks_after, class_of, next_of, code_of, numbers_text, key_numbers, stored_number, kind_numbers}
 use Rattle.mm_move_classes.specs.{kind_code, move_numbers, head_text, move_data, mark_data, is_marked, mark_before, last_mark, data_from, log_data, IsLog}
-use Rattle.mm_move_classes.specs.{Word, Add, Drop, Clear, Steal, Give, Read, Got, Bad, Map, Unmap, Soil, Write, Wrote, Lost, word_of, word_of_move, Class}
+use Rattle.mm_move_classes.specs.{MoveWord, Add, Drop, Clear, Steal, Give, Read, Got, Bad, Map, Unmap, Soil, Write, Wrote, Lost, word_of, word_of_move, Class}
 use Rattle.mm_move_classes.specs.declared.classes.Class.TheVariants as class
 use Rattle.mm_move_classes.proofs.Again.{heads, cancel, small_move, numbers_again}
 use Rattle.mm_move_classes.proofs.Codes.{codes_tell}
@@ -31,7 +31,7 @@ frame f = record { 0 = f }
 abbrev place : ℕ → ℕ → Place
 place p v = record { pid = record { 0 = p }; vpn = record { 0 = v } }
 
-move_of : Word → List ℕ → Option Move
+move_of : MoveWord → List ℕ → Option Move
 move_of Add (a ∷ b ∷ []) = Some (move.Add (key_of a b) None)
 move_of Add (a ∷ b ∷ c ∷ []) = Some (move.Add (key_of a b) (Some (record { 0 = c })))
 move_of Drop (a ∷ b ∷ []) = Some (move.Drop (key_of a b))
@@ -83,7 +83,7 @@ stored_by (stored.Block n) =
     ∙ ap (λ (m : ℕ). stored.Block (record { 0 = m })) (half_odd n.0)
 
 -- its word, where it is no `at`
-abbrev word : Move → Word
+abbrev word : Move → MoveWord
 word (move.Drop k) = Drop
 word (move.Clear f) = Clear
 word (move.Steal f) = Steal
@@ -99,14 +99,14 @@ word (move.Wrote f) = Wrote
 word (move.Lost f) = Lost
 word _ = Add
 
-one_word : (a b : Word) → Some a ≡ Some b → a ≡ b
+one_word : (a b : MoveWord) → Some a ≡ Some b → a ≡ b
 one_word a b e = cc
 
-spelled : (m : Move) (w : Word) → word_of_move m ≡ Some w → Some (word m) ≡ Some w
+spelled : (m : Move) (w : MoveWord) → word_of_move m ≡ Some w → Some (word m) ≡ Some w
 spelled (move.At n k) w e = cc
 spelled _ w e = e
 
-back : (m : Move) (w : Word) → word_of_move m ≡ Some w → move_of (word m) (move_numbers m) ≡ Some m
+back : (m : Move) (w : MoveWord) → word_of_move m ≡ Some w → move_of (word m) (move_numbers m) ≡ Some m
 unfolding move_of
 back (move.At n k) w e = cc
 back (move.Add (Private p v) None) w e = ap (λ (k : Key). Some (move.Add k None)) (private_by p v)
@@ -122,16 +122,16 @@ back (move.Read f (Shared a i)) w e = ap (λ (k : Key). Some (move.Read f k)) (s
 back (move.Write f s) w e = ap (λ (x : Stored). Some (move.Write f x)) (stored_by s)
 back m w e = refl
 
-again : (w : Word) (m : Move) → word_of_move m ≡ Some w → move_of w (move_numbers m) ≡ Some m
-again w m e = subst (λ (v : Word). move_of v (move_numbers m) ≡ Some m) (one_word (word m) w (spelled m w e)) (back m w e)
+again : (w : MoveWord) (m : Move) → word_of_move m ≡ Some w → move_of w (move_numbers m) ≡ Some m
+again w m e = subst (λ (v : MoveWord). move_of v (move_numbers m) ≡ Some m) (one_word (word m) w (spelled m w e)) (back m w e)
 
-pub move_again : (w : Word) (x y : Move) → word_of_move x ≡ Some w → word_of_move y ≡ Some w → move_numbers x ≡ move_numbers y → x ≡ y
+pub move_again : (w : MoveWord) (x y : Move) → word_of_move x ≡ Some w → word_of_move y ≡ Some w → move_numbers x ≡ move_numbers y → x ≡ y
 move_again w x y p q e =
     let h : Some x ≡ Some y = sym (again w x p) ∙ ap (λ (ns : List ℕ). move_of w ns) e ∙ again w y q in cc
 
 -- ---- a class tells how many numbers follow
 
-abbrev size_by : Word → ℕ
+abbrev size_by : MoveWord → ℕ
 size_by Add = 2
 size_by Drop = 2
 size_by Give = 3
@@ -149,15 +149,15 @@ size_key : (k : Key) (ms : List ℕ) → length (key_numbers k ++ ms) ≡ 2 + le
 size_key (Private p v) ms = omega arith
 size_key (Shared a i) ms = omega arith
 
-abbrev is_add : Word → Bool
+abbrev is_add : MoveWord → Bool
 is_add Add = true
 is_add _ = false
 
-size_word : (c : Class) (w : Word) → word_of c ≡ w → is_add w ≡ false → size_of c ≡ size_by w
+size_word : (c : Class) (w : MoveWord) → word_of c ≡ w → is_add w ≡ false → size_of c ≡ size_by w
 size_word class.FilePageAdded w e n = let bad : true ≡ false = ap is_add e ∙ n in cc
 size_word _ w e n = ap size_by e
 
-same_word : (c : Class) (o : Option Class) (w : Word) → o ≡ Some c → option_map word_of o ≡ Some w → word_of c ≡ w
+same_word : (c : Class) (o : Option Class) (w : MoveWord) → o ≡ Some c → option_map word_of o ≡ Some w → word_of c ≡ w
 same_word c o w e h = let g : Some (word_of c) ≡ Some w = sym (ap (λ (x : Option Class). option_map word_of x) e) ∙ h in cc
 
 module _ (l : FrameLife) (v : MarksOf) (before : Option Move) (after : Option Move) (c : Class) where
@@ -168,7 +168,7 @@ module _ (l : FrameLife) (v : MarksOf) (before : Option Move) (after : Option Mo
   added_block : Some class.FilePageAdded ≡ Some c → 3 ≡ size_of c
   added_block e = let h : class.FilePageAdded ≡ c = cc in ap size_of h
 
-  by_word : (m : Move) (w : Word) → class_of l v before m after ≡ Some c → word_of_move m ≡ Some w → is_add w ≡ false → size_of c ≡ size_by w
+  by_word : (m : Move) (w : MoveWord) → class_of l v before m after ≡ Some c → word_of_move m ≡ Some w → is_add w ≡ false → size_of c ≡ size_by w
   by_word m w e h n = size_word c w (same_word c (class_of l v before m after) w e (word_fits l v before m after ∙ h)) n
 
   sized : (m : Move) → class_of l v before m after ≡ Some c → length (move_numbers m) ≡ size_of c
@@ -235,7 +235,7 @@ record Line (m : Move) : Type 0 where
 
 record Classed (l : FrameLife) (v : MarksOf) (before : Option Move) (m : Move) (after : Option Move) : Type 0 where
   its : Class
-  its_word : Word
+  its_word : MoveWord
   is : class_of l v before m after ≡ Some its
   word_is : word_of_move m ≡ Some its_word
   of_class : word_of its ≡ its_word
@@ -244,12 +244,12 @@ record Classed (l : FrameLife) (v : MarksOf) (before : Option Move) (m : Move) (
 
 -- a move begins a line, or has a class
 module _ (l : FrameLife) (v : MarksOf) (before : Option Move) (after : Option Move) where
-  classed_as : (m : Move) (w : Word) → word_of_move m ≡ Some w → mark_before l m ≡ [] → ((c : Class) → head_text (Some c) m ≡ code_of c ∷ [])
+  classed_as : (m : Move) (w : MoveWord) → word_of_move m ≡ Some w → mark_before l m ≡ [] → ((c : Class) → head_text (Some c) m ≡ code_of c ∷ [])
       → (o : Option Class) → class_of l v before m after ≡ o → option_map word_of o ≡ Some w → Classed l v before m after
   classed_as m w e n h None i f = cc
   classed_as m w e n h (Some c) i f = record { its = c; its_word = w; is = i; word_is = e; of_class = same_word c (Some c) w refl f; no_mark = n; head = h c }
 
-  classed : (m : Move) (w : Word) → word_of_move m ≡ Some w → mark_before l m ≡ [] → ((c : Class) → head_text (Some c) m ≡ code_of c ∷ []) → Line m ⊎ Classed l v before m after
+  classed : (m : Move) (w : MoveWord) → word_of_move m ≡ Some w → mark_before l m ≡ [] → ((c : Class) → head_text (Some c) m ≡ code_of c ∷ []) → Line m ⊎ Classed l v before m after
   classed m w e n h = inr (classed_as m w e n h (class_of l v before m after) refl (word_fits l v before m after ∙ e))
 
   begins : (m : Move) → Line m ⊎ Classed l v before m after
@@ -351,7 +351,7 @@ module _ (l : FrameLife) (v : MarksOf) (before : Option Move) where
       let s = numbers_again (move_numbers x) (move_numbers y) rx ry (small_move x p) (small_move y q)
       (sized l v before ax a.its x a.is ∙ ap size_of c ∙ sym (sized l v before ay b.its y b.is)) h.1 in
       let w : b.its_word ≡ a.its_word = sym b.of_class ∙ sym (ap word_of c) ∙ a.of_class in
-      record { moves = move_again a.its_word x y a.word_is (b.word_is ∙ ap (λ (u : Word). Some u) w) s.numbers; rest = s.rest }
+      record { moves = move_again a.its_word x y a.word_is (b.word_is ∙ ap (λ (u : MoveWord). Some u) w) s.numbers; rest = s.rest }
 
   pub one_step : (x y : Move) (ax ay : Option Move) (rx ry : Text) → IsMove x → IsMove y → IsLegal x l → IsLegal y l
       → front l v before ax x rx ≡ front l v before ay y ry → Stepped x y rx ry

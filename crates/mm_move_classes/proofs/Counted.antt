@@ -6,31 +6,31 @@ use Rattle.mm_types.specs.{Move}
 use Rattle.mm_types.specs.declared.moves.Move.TheVariants as move
 use Rattle.mm_move_rules.specs.{record_at, is_on, FrameLife, unstarted, after_move, is_give, is_read_in, is_steal, is_wrote, brought_in, soft_fault}
 use Rattle.mm_move_rules.specs.{soft_faults_from, counts_of_log}
-use Rattle.mm_move_classes.specs.{MarksOf, marks_after, no_marks, class_of, classes_from, classes, class_of_soft, next_of, Word, Give, Read, Map, Steal}
-use Rattle.mm_move_classes.specs.{Wrote, word_of, word_of_move, is_class, class_count, Agrees, Class}
+use Rattle.mm_move_classes.specs.{MarksOf, marks_after, no_marks, class_of, classes_from, classes, class_of_soft, next_of, MoveWord, Give, Read, Map, Steal}
+use Rattle.mm_move_classes.specs.{Wrote, word_of, word_of_move, is_class, class_count, CountsAgree, Class}
 use Rattle.mm_move_classes.specs.declared.classes.Class.TheVariants as class
 use Rattle.mm_move_classes.proofs.Fits.{word_fits, of_two, of_soft}
 
 abbrev one : Bool → ℕ
 one b = cond b 1 0
 
-abbrev gives : Option Word → Bool
+abbrev gives : Option MoveWord → Bool
 gives (Some Give) = true
 gives _ = false
 
-abbrev reads : Option Word → Bool
+abbrev reads : Option MoveWord → Bool
 reads (Some Read) = true
 reads _ = false
 
-abbrev steals : Option Word → Bool
+abbrev steals : Option MoveWord → Bool
 steals (Some Steal) = true
 steals _ = false
 
-abbrev writes : Option Word → Bool
+abbrev writes : Option MoveWord → Bool
 writes (Some Wrote) = true
 writes _ = false
 
-abbrev maps : Option Word → Bool
+abbrev maps : Option MoveWord → Bool
 maps (Some Map) = true
 maps _ = false
 
@@ -79,16 +79,16 @@ wrote_word _ = refl
 
 module _ (l : FrameLife) (v : MarksOf) (before : Option Move) (m : Move) (after : Option Move) where
   gave : one (is_class class.DemandZeroFault (class_of l v before m after)) + one (is_class class.FrameForCopy (class_of l v before m after)) ≡ one (is_give m)
-  gave = given (class_of l v before m after) ∙ ap (λ (w : Option Word). one (gives w)) (word_fits l v before m after) ∙ ap one (give_word m)
+  gave = given (class_of l v before m after) ∙ ap (λ (w : Option MoveWord). one (gives w)) (word_fits l v before m after) ∙ ap one (give_word m)
 
   read_in : one (is_class class.HardFaultFromPagingFile (class_of l v before m after)) + one (is_class class.HardFaultFromFile (class_of l v before m after)) ≡ one (is_read_in m)
-  read_in = was_read (class_of l v before m after) ∙ ap (λ (w : Option Word). one (reads w)) (word_fits l v before m after) ∙ ap one (read_word m)
+  read_in = was_read (class_of l v before m after) ∙ ap (λ (w : Option MoveWord). one (reads w)) (word_fits l v before m after) ∙ ap one (read_word m)
 
   stole : one (is_class class.StandbyRepurposed (class_of l v before m after)) ≡ one (is_steal m)
-  stole = stolen (class_of l v before m after) ∙ ap (λ (w : Option Word). one (steals w)) (word_fits l v before m after) ∙ ap one (steal_word m)
+  stole = stolen (class_of l v before m after) ∙ ap (λ (w : Option MoveWord). one (steals w)) (word_fits l v before m after) ∙ ap one (steal_word m)
 
   wrote : one (is_class class.WriteDone (class_of l v before m after)) + one (is_class class.WriteDoneChanged (class_of l v before m after)) + one (is_class class.WriteDoneDeleted (class_of l v before m after)) ≡ one (is_wrote m)
-  wrote = written (class_of l v before m after) ∙ ap (λ (w : Option Word). one (writes w)) (word_fits l v before m after) ∙ ap one (wrote_word m)
+  wrote = written (class_of l v before m after) ∙ ap (λ (w : Option MoveWord). one (writes w)) (word_fits l v before m after) ∙ ap one (wrote_word m)
 
 -- ---- soft faults
 
@@ -126,7 +126,7 @@ found_as l v before _ after frames h = refl
 found : (l : FrameLife) (v : MarksOf) (before : Option Move) (m : Move) (after : Option Move) (frames : List ℕ) → AreFresh v frames
     → one (is_found (class_of l v before m after)) ≡ soft_fault frames m
 found l v before m after frames h =
-    ap (λ (w : Option Word). one (maps w && not (is_class class.MadeValid (class_of l v before m after)))) (word_fits l v before m after)
+    ap (λ (w : Option MoveWord). one (maps w && not (is_class class.MadeValid (class_of l v before m after)))) (word_fits l v before m after)
     ∙ found_as l v before m after frames h
 
 -- ---- the sums of a log, move by move
@@ -199,7 +199,7 @@ soft_sum l v before frames (m ∷ ms) h =
     (was_found (class_of l v before m (next_of ms)) ∙ found l v before m (next_of ms) frames h)
     (soft_sum (after_move l m) (marks_after v m) (Some m) (brought_in frames m) ms (stay_fresh v frames m h))
 
-pub agrees : (moves : List Move) → Agrees (classes moves) (counts_of_log moves)
+pub agrees : (moves : List Move) → CountsAgree (classes moves) (counts_of_log moves)
 agrees moves = record {
   zero_fills = zero_sum unstarted no_marks None moves;
   hard_faults = hard_sum unstarted no_marks None moves;

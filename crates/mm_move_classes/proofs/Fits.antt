@@ -6,7 +6,7 @@ use Rattle.mm_types.specs.declared.frames.Held.TheVariants as held
 use Rattle.mm_types.specs.declared.moves.Move.TheVariants as move
 use Rattle.mm_move_rules.specs.{record_at, is_on, has_request, is_again, is_access, is_touch, is_unbind, is_writer, is_zeroer, is_short, FrameLife}
 use Rattle.mm_move_classes.specs.{MarksOf, class_of, class_of_add, class_of_read, class_of_soft, class_of_map, class_of_unmap, class_of_got}
-use Rattle.mm_move_classes.specs.{class_of_write, class_of_wrote, is_busy, is_copy, is_trim, makes_way, makes_room, reads_into, Class, Word, Add, Drop}
+use Rattle.mm_move_classes.specs.{class_of_write, class_of_wrote, is_busy, is_copy_on_write, is_trim, makes_way, makes_room, reads_into, Class, MoveWord, Add, Drop}
 use Rattle.mm_move_classes.specs.{Clear, Give, Read, Got, Bad, Map, Unmap, Soil, Write, Wrote, Lost, word_of, word_of_move}
 use Rattle.mm_move_classes.specs.declared.classes.Class.TheVariants as class
 
@@ -18,8 +18,8 @@ of_two f a false x y p q = q
 of_three : {A : Type 0} (f : Class → A) (a : A) (s t : Bool) (x y z : Class) → f x ≡ a → f y ≡ a → f z ≡ a → f (cond s x (cond t y z)) ≡ a
 of_three f a s t x y z p q r = of_two f a s x (cond t y z) p (of_two f a t y z q r)
 
-some_word : (c : Class) (w : Word) → word_of c ≡ w → option_map word_of (Some c) ≡ Some w
-some_word c w e = ap (λ (v : Word). Some v) e
+some_word : (c : Class) (w : MoveWord) → word_of c ≡ w → option_map word_of (Some c) ≡ Some w
+some_word c w e = ap (λ (v : MoveWord). Some v) e
 
 word_of_add : (k : LineKind) (b : Option Block) → word_of (class_of_add k b) ≡ Add
 word_of_add k None = of_two word_of Add (is_touch k) class.CopyOnWriteFault class.DemandZeroAdded refl refl
@@ -67,7 +67,7 @@ word_fits l v before (move.Clear f) after =
     some_word _ Clear (of_two word_of Clear (is_zeroer l.kind) class.ZeroedByThread class.ZeroedOnDemand refl refl)
 word_fits l v before (move.Steal f) after = refl
 word_fits l v before (move.Give f k) after =
-    some_word _ Give (of_two word_of Give (is_copy l k) class.FrameForCopy class.DemandZeroFault refl refl)
+    some_word _ Give (of_two word_of Give (is_copy_on_write l k) class.FrameForCopy class.DemandZeroFault refl refl)
 word_fits l v before (move.Read f k) after = some_word (class_of_read (l.stands k)) Read (word_of_read (l.stands k))
 word_fits l v before (move.Got f) after =
     some_word _ Got (word_of_got l.kind (record_at l.frames f.0) (reads_into f.0 before))

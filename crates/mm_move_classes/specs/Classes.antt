@@ -39,12 +39,12 @@ abbrev pub class_of_clear : LineKind → Class
 class_of_clear k = if is_zeroer k then class.ZeroedByThread else class.ZeroedOnDemand
 
 -- the place of a private page is valid: for the shared page that it is a copy of
-abbrev pub is_copy : FrameLife → Key → Bool
-is_copy l (Private p v) = is_some (l.valid (record { pid = p; vpn = v }))
-is_copy l (Shared a i) = false
+abbrev pub is_copy_on_write : FrameLife → Key → Bool
+is_copy_on_write l (Private p v) = is_some (l.valid (record { pid = p; vpn = v }))
+is_copy_on_write l (Shared a i) = false
 
 abbrev pub class_of_give : FrameLife → Key → Class
-class_of_give l k = if is_copy l k then class.FrameForCopy else class.DemandZeroFault
+class_of_give l k = if is_copy_on_write l k then class.FrameForCopy else class.DemandZeroFault
 
 -- a page is read from where it stands
 abbrev pub class_of_read : Held → Class

@@ -13,7 +13,7 @@ abbrev pub class_count : Class → List (Option Class) → ℕ
 class_count c cs = count_by (is_class c) cs
 
 -- the counts of a log are sums of numbers of its classes
-pub record Agrees (cs : List (Option Class)) (n : CountsOfLog) : Type 0 where
+pub record CountsAgree (cs : List (Option Class)) (n : CountsOfLog) : Type 0 where
   pub zero_fills :
       class_count class.DemandZeroFault cs + class_count class.FrameForCopy cs ≡ n.zero_fills
   pub hard_faults :

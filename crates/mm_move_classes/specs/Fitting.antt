@@ -5,24 +5,24 @@ use Rattle.mm_types.specs.declared.moves.Move.TheVariants as move
 use Rattle.mm_move_classes.specs.declared.classes.Class.{Class}
 use Rattle.mm_move_classes.specs.declared.classes.Class.TheVariants as class
 
-pub data Word : Type 0 where
-  Add : Word
-  Drop : Word
-  Clear : Word
-  Steal : Word
-  Give : Word
-  Read : Word
-  Got : Word
-  Bad : Word
-  Map : Word
-  Unmap : Word
-  Soil : Word
-  Write : Word
-  Wrote : Word
-  Lost : Word
+pub data MoveWord : Type 0 where
+  Add : MoveWord
+  Drop : MoveWord
+  Clear : MoveWord
+  Steal : MoveWord
+  Give : MoveWord
+  Read : MoveWord
+  Got : MoveWord
+  Bad : MoveWord
+  Map : MoveWord
+  Unmap : MoveWord
+  Soil : MoveWord
+  Write : MoveWord
+  Wrote : MoveWord
+  Lost : MoveWord
 
 -- `at` is no move of frames
-abbrev pub word_of_move : Move → Option Word
+abbrev pub word_of_move : Move → Option MoveWord
 word_of_move (move.At n k) = None
 word_of_move (move.Add k b) = Some Add
 word_of_move (move.Drop k) = Some Drop
@@ -39,7 +39,7 @@ word_of_move (move.Write f s) = Some Write
 word_of_move (move.Wrote f) = Some Wrote
 word_of_move (move.Lost f) = Some Lost
 
-abbrev pub word_of : Class → Word
+abbrev pub word_of : Class → MoveWord
 word_of class.DemandZeroAdded = Add
 word_of class.FilePageAdded = Add
 word_of class.CopyOnWriteFault = Add

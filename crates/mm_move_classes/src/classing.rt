@@ -2,7 +2,7 @@ ghost use Rattle.std.specs.Prelude.{◌≡◌, if◌then◌else◌, is_none, opt
 ghost use Rattle.mm_move_rules.specs.{is_at_max, shows_shared, is_short, owner_is, is_shared};
 ghost use Rattle.mm_replay.specs.Standing.{life};
 ghost use Rattle.mm_move_classes.specs.{class_of_add, class_of_drop, class_of_clear, class_of_give, class_of_read, class_of_got, class_of_soft};
-ghost use Rattle.mm_move_classes.specs.{class_of_map, class_of_unmap, class_of_soil, class_of_write, class_of_wrote, class_of, is_busy, is_copy};
+ghost use Rattle.mm_move_classes.specs.{class_of_map, class_of_unmap, class_of_soil, class_of_write, class_of_wrote, class_of, is_busy, is_copy_on_write};
 ghost use Rattle.mm_move_classes.specs.{makes_way, maps_into, makes_room, reads_into, marks_of};
 
 use crate::classes::Class;
@@ -100,7 +100,7 @@ fn class_of_clear(kind: LineKind) -> Class
 
 /// Whether the place of a private page is valid: for the shared page that it is a copy of.
 fn is_copy(replay: &Life, key: Key) -> bool
-    ensures { result ≡ is_copy (life replay.now) key }
+    ensures { result ≡ is_copy_on_write (life replay.now) key }
 {
     match key {
         Key::Private(pid, vpn) => replay.frame_of(Place { pid, vpn }).is_some(),

@@ -2,7 +2,7 @@ ghost use Rattle.std.specs.Prelude.{◌≡◌, true, Option, List, option_map};
 ghost use Rattle.std.specs.List.{list_all};
 ghost use Rattle.mm_types.specs.{Move};
 ghost use Rattle.mm_move_rules.specs.{FrameLife, counts_of_log};
-ghost use Rattle.mm_move_classes.specs.{Class, MarksOf, class_of, classes, Agrees, IsLog, is_plain_in_html, log_data, word_of, word_of_move, SaysTheState};
+ghost use Rattle.mm_move_classes.specs.{Class, MarksOf, class_of, classes, CountsAgree, IsLog, is_plain_in_html, log_data, word_of, word_of_move, SaysTheState};
 ghost use Rattle.mm_move_classes.specs.{code_of};
 ghost use Rattle.mm_move_laws.specs.Sound.{Sound};
 
@@ -16,7 +16,7 @@ pub fn moves_have_classes_of_their_word()
 /// The counts of a log are sums of numbers of its classes: zero fills, hard faults, soft faults,
 /// steals and write-outs.
 pub fn classes_sum_to_counts()
-    ensures { (moves : List Move) → Agrees (classes moves) (counts_of_log moves) }
+    ensures { (moves : List Move) → CountsAgree (classes moves) (counts_of_log moves) }
 {}
 
 /// No two classes have one code.

@@ -3,7 +3,8 @@ use Rattle.std.proofs.Common.{◌≡◌, ◌≢◌, ◌⊎◌, ℕ, zero, suc, L
 use Rattle.std.specs.Prelude.{slice_get, ◌==◌, is_some, filter, unwrap_or, option_map}
 use Rattle.mm_types.proofs.Cells.{get_set_same, get_set_other, get_within, same_or_not}
 use Rattle.mm_move_rules.specs.{ResidentSet, set_in, with_resident, resident_by, FrameTable, record_at, same_place, changed, fits_place}
-use Rattle.mm_move_laws.specs.{residents, one_if, tally, is_frame, is_of, Sight, Shown}
+use Rattle.mm_move_laws.specs.{residents, one_if, tally, is_of, Sight, Shown}
+use Rattle.mm_move_rules.specs.{is_frame}
 use Rattle.std.specs.Cmp.{unsigned_Decides}
 use Rattle.std.proofs.lemmas.Bool.{eqb-true, eq-eqb, and_parts, and_from}
 use Rattle.mm_types.proofs.Tables.{differ}

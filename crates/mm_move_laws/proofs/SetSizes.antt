@@ -11,7 +11,8 @@ use Rattle.mm_types.proofs.Options.{none_of}
 use Rattle.mm_types.proofs.Booleans.{not_true}
 use Rattle.mm_move_rules.specs.{ResidentSet, record_at, has_request, FrameLife, same_place, set_in, set_of, with_resident, resident_by, unstarted, IsLegal}
 use Rattle.mm_move_rules.specs.{is_legal_kind, is_valid_machine, is_touch, after_move, after_at, after_unmap_at}
-use Rattle.mm_move_laws.specs.{one_if, tally, sum_to, is_frame, is_of, residents, residents_in, valid_places, maxima_in, CountsPlaces, InRange}
+use Rattle.mm_move_laws.specs.{one_if, tally, sum_to, is_of, residents, residents_in, valid_places, maxima_in, CountsPlaces, InRange}
+use Rattle.mm_move_rules.specs.{is_frame}
 use Rattle.mm_move_laws.specs.{ReachedByMoves}
 use Rattle.mm_move_laws.specs.Sound.{Sound}
 use Rattle.mm_move_laws.proofs.Sums.{one_most, sum-same, sum-plus, sum-zeros, sum-front, sum-inside, sum-tally, total-listed, total-ones}

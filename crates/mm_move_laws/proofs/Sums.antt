@@ -5,7 +5,8 @@ use Rattle.std.specs.Cmp.{unsigned_Decides}
 use Rattle.std.proofs.lemmas.List.Sums.{sum_by-cons}
 use Rattle.std.proofs.lemmas.Bool.{cases_lt, lt-ltb, le-ltb}
 use Rattle.mm_types.specs.{Frame}
-use Rattle.mm_move_laws.specs.{one_if, tally, times, sum_to, total, is_frame}
+use Rattle.mm_move_laws.specs.{one_if, tally, times, sum_to, total}
+use Rattle.mm_move_rules.specs.{is_frame}
 use Rattle.std.proofs.lemmas.Bool.Decides.{nat_tests}
 
 pub one_most : (b : Bool) → one_if b ≤ 1

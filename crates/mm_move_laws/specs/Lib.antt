@@ -19,7 +19,7 @@ pub use Tally.{one_if, tally, times}
 pub use Sums.{sum_to, total}
 pub use Standing.{IsModified, IsStandby, counted_frames, standings}
 pub use Holders.{Behind, Holder, Home, holding, slot_held}
-pub use Places.{CountsPlaces, is_frame, is_of, maxima_in, residents, residents_in, valid_places}
+pub use Places.{CountsPlaces, is_of, maxima_in, residents, residents_in, valid_places}
 pub use PagingKeys.{CountsKeys, is_backing_for, is_file_key, is_home_for}
 pub use Fits.{Fit, is_backed, is_kept}
 pub use Sights.{FramesStand, Sight, Stand, sight}

@@ -4,10 +4,7 @@ use Rattle.std.specs.Prelude.{◌≡◌, ℕ, ◌+◌, Bool, false, ◌==◌, is
 use Rattle.mm_types.specs.{Frame, Place}
 use Rattle.mm_move_rules.specs.{record_at, FrameLife, same_place, set_of, ResidentSet}
 use Rattle.mm_move_laws.specs.Tally.{one_if, tally}
-
-abbrev pub is_frame : ℕ → Option Frame → Bool
-is_frame f None = false
-is_frame f (Some g) = g.0 == f
+use Rattle.mm_move_rules.specs.{is_frame}
 
 -- the place is valid for the frame
 abbrev pub shows : FrameLife → ℕ → Place → Bool

@@ -6,7 +6,8 @@ use Rattle.mm_types.specs.declared.frames.Held.TheVariants as held
 use Rattle.mm_move_rules.specs.{ResidentSet, FrameTable, record_at, FrameLife, same_key, same_place, set_in, is_access, is_call, fits_place}
 use Rattle.mm_move_laws.specs.Tally.{one_if, tally}
 use Rattle.mm_move_laws.specs.Holders.{Holder, holding}
-use Rattle.mm_move_laws.specs.Places.{is_frame, is_of, residents}
+use Rattle.mm_move_laws.specs.Places.{is_of, residents}
+use Rattle.mm_move_rules.specs.{is_frame}
 use Rattle.mm_move_laws.specs.PagingKeys.{is_home_for, is_backing_for}
 use Rattle.mm_move_laws.specs.Sights.{FramesStand}
 

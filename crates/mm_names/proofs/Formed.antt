@@ -7,8 +7,8 @@ use Rattle.mm_script.specs.{LineFault, without_return, parse}
 use Rattle.mm_script.proofs.{parse_ok, line_fits}
 use Rattle.mm_names.specs.declared.meanings.Meaning.{Meaning}
 use Rattle.mm_names.specs.declared.meanings.Meaning.TheVariants as meaning
-use Rattle.mm_names.specs.{NamesOf, tidy_of, value_of, windows_value, lowered, keyword_for, said_by, said_in, given_as, given_to, let_of, sentence}
-use Rattle.mm_names.specs.{phrase, most_line, meant_by, or_else, meant, plain_of, FormedIn, may_stand, placed_line}
+use Rattle.mm_names.specs.{NamesOf, tidy_of, value_of, windows_value, lowered, keyword_for, said_by, said_in, given_as, given_under, let_of, sentence}
+use Rattle.mm_names.specs.{phrase, most_line, meant_by, event_or, meant, plain_of, FormedIn, may_stand, placed_line}
 
 pub formed_choice : (b : Bool) (m n : Meaning) → FormedIn m → FormedIn n → FormedIn (if b then m else n)
 formed_choice true m n g h = g
@@ -27,7 +27,7 @@ pub formed_as : (name : Text) (n : Option ℕ) → FormedIn (given_as name n)
 formed_as name None = tt
 formed_as name (Some n) = tt
 
-pub formed_given : (names : NamesOf) (name : Option Text) (word : Text) → FormedIn (given_to names name word)
+pub formed_given : (names : NamesOf) (name : Option Text) (word : Text) → FormedIn (given_under names name word)
 formed_given names None word = tt
 formed_given names (Some name) word =
     formed_choice (is_some (windows_value name)) meaning.Wrong (given_as name (value_of names word)) tt
@@ -38,7 +38,7 @@ formed_let names [] = tt
 formed_let names (a ∷ []) = tt
 formed_let names (a ∷ b ∷ []) = tt
 formed_let names (a ∷ b ∷ c ∷ []) =
-    formed_choice (bytes_eq b.text (codes "=")) (given_to names (name_of a.text) c.text) meaning.Wrong
+    formed_choice (bytes_eq b.text (codes "=")) (given_under names (name_of a.text) c.text) meaning.Wrong
     (formed_given names (name_of a.text) c.text) tt
 formed_let names (a ∷ b ∷ c ∷ d ∷ ws) = tt
 
@@ -58,7 +58,7 @@ formed_by names None = tt
 formed_by names (Some t) =
     formed_choice (nat_le (length t) most_line) (phrase names t) meaning.Wrong (formed_phrase names t) tt
 
-pub formed_else : (text : Text) (r : Result Event LineFault) (m : Meaning) → r ≡ parse text → FormedIn m → FormedIn (or_else r m)
+pub formed_else : (text : Text) (r : Result Event LineFault) (m : Meaning) → r ≡ parse text → FormedIn m → FormedIn (event_or r m)
 formed_else text (Ok e) m h f = line_fits text e (parse_ok text e (sym h))
 formed_else text (Err g) m h f = f
 
@@ -66,7 +66,7 @@ pub formed_meant : (names : NamesOf) (line : Text) → FormedIn (meant names lin
 unfolding meant
 formed_meant names line =
     let other : Meaning = meant_by names (tidy_of (without_return line)) in
-    formed_choice (nat_le (length line) most_line) (or_else (parse line) other) meaning.Wrong
+    formed_choice (nat_le (length line) most_line) (event_or (parse line) other) meaning.Wrong
     (formed_else line (parse line) other refl (formed_by names (tidy_of (without_return line)))) tt
 
 pub formed_placed : (begun : Bool) (m : Meaning) → FormedIn m → FormedIn (placed_line begun m)

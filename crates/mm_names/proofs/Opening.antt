@@ -5,8 +5,9 @@ use Rattle.mm_types.specs.{Text, Event}
 use Rattle.mm_script.specs.{LineFault, without_return, parse}
 use Rattle.mm_names.specs.declared.meanings.Meaning.{Meaning}
 use Rattle.mm_names.specs.declared.meanings.Meaning.TheVariants as meaning
-use Rattle.mm_names.specs.{NamesOf, no_names, with_name, tidy_of, most_line, meant_by, or_else, meant, is_machine, may_stand, placed_line, goes_on}
-use Rattle.mm_names.specs.{events_of, lines_of, script_of, IsScript, ArePlain}
+use Rattle.mm_names.specs.{NamesOf, no_names, with_given, tidy_of, most_line, meant_by, event_or, meant, may_stand, placed_line, goes_on}
+use Rattle.mm_script.specs.{is_machine}
+use Rattle.mm_names.specs.{events_of, written_lines, script_in, IsScript, ArePlain}
 
 -- what may follow: no machine once a script has begun
 abbrev pub Starts : Bool → List Event → Type 0
@@ -40,7 +41,7 @@ pub starts_line : (m : Meaning) (begun : Bool) (names : NamesOf) (ls : List Text
     → ((ns : NamesOf) (c : Bool) (fs : List Event) → events_of ns c ls ≡ Some fs → Starts c fs)
     → goes_on (placed_line begun m) names begun (λ ns c. events_of ns c ls) ≡ Some es → Starts begun es
 starts_line meaning.Nothing begun names ls es later is = later names begun es is
-starts_line (meaning.Gives g) begun names ls es later is = later (with_name names g) begun es is
+starts_line (meaning.Gives g) begun names ls es later is = later (with_given names g) begun es is
 starts_line (meaning.Says e) begun names ls es later is =
     starts_said (may_stand begun e) begun e names ls es refl later is
 starts_line meaning.Wrong begun names ls es later is = let bad : None ≡ Some es = is in cc
@@ -54,9 +55,9 @@ pub starts : (ls : List Text) (names : NamesOf) (begun : Bool) (es : List Event)
 starts [] names begun es is = starts_none begun es is
 starts (l ∷ ls) names begun es is = starts_line (meant names l) begun names ls es (starts ls) is
 
-pub opens : (text : Text) (es : List Event) → script_of text ≡ Some es → IsScript es
-unfolding script_of
-opens text es is = starts (lines_of text) no_names false es is
+pub opens : (text : Text) (es : List Event) → script_in text ≡ Some es → IsScript es
+unfolding script_in
+opens text es is = starts (written_lines text) no_names false es is
 
 pub stands : (begun : Bool) (e : Event) (es : List Event) → Starts begun (e ∷ es)
     → (may_stand begun e ≡ true) × Starts true es
@@ -71,8 +72,8 @@ pub plain_meant : (names : NamesOf) (l : Text) (e : Event) → parse l ≡ Ok e 
 unfolding meant
 plain_meant names l e h short =
     let other : Meaning = meant_by names (tidy_of (without_return l)) in
-    ap (λ b. if b then or_else (parse l) other else meaning.Wrong) (short_line (length l) short)
-    ∙ ap (λ r. or_else r other) h
+    ap (λ b. if b then event_or (parse l) other else meaning.Wrong) (short_line (length l) short)
+    ∙ ap (λ r. event_or r other) h
 
 pub plain_goes : (begun : Bool) (m : Meaning) (e : Event) (names : NamesOf) (ls : List Text) (es : List Event)
     → m ≡ meaning.Says e → may_stand begun e ≡ true → events_of names true ls ≡ Some es
@@ -93,8 +94,8 @@ plain_from (l ∷ ls) (e ∷ es) names begun plain start =
     plain_goes begun (meant names l) e names ls es (plain_meant names l e plain.0 plain.1) stand.0
     (plain_from ls es names true plain.2 stand.1)
 
-pub plain_script : (text : Text) (es : List Event) → ArePlain (lines_of text) es → IsScript es → script_of text ≡ Some es
-unfolding script_of
-plain_script text es plain start = plain_from (lines_of text) es no_names false plain start
+pub plain_script : (text : Text) (es : List Event) → ArePlain (written_lines text) es → IsScript es → script_in text ≡ Some es
+unfolding script_in
+plain_script text es plain start = plain_from (written_lines text) es no_names false plain start
 
 pub ruleset opening = (opens, plain_script)

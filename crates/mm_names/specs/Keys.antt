@@ -20,12 +20,12 @@ name_key name = record { name = name }
 abbrev pub same_name : NameKey → NameKey → Bool
 same_name a b = bytes_eq a.name b.name
 
-abbrev pub with_name : NamesOf → Given → NamesOf
-with_name names g = insert_entry same_name names (name_key g.name) g.value
+abbrev pub with_given : NamesOf → Given → NamesOf
+with_given names g = insert_entry same_name names (name_key g.name) g.value
 
-abbrev pub found_by : NamesOf → Text → Option ℕ
-found_by names name = lookup (same_name (name_key name)) names
+abbrev pub value_named : NamesOf → Text → Option ℕ
+value_named names name = lookup (same_name (name_key name)) names
 
 -- what the script gave a word, where it has the form of a name
 abbrev pub given_value : NamesOf → Text → Option ℕ
-given_value names word = option_and_then (found_by names) (name_of word)
+given_value names word = option_and_then (value_named names) (name_of word)

@@ -56,15 +56,15 @@ abbrev pub given_as : Text → Option ℕ → Meaning
 given_as name None = meaning.Wrong
 given_as name (Some n) = meaning.Gives (record { name = name; value = n })
 
-abbrev pub given_to : NamesOf → Option Text → Text → Meaning
-given_to names None word = meaning.Wrong
-given_to names (Some name) word =
+abbrev pub given_under : NamesOf → Option Text → Text → Meaning
+given_under names None word = meaning.Wrong
+given_under names (Some name) word =
     if is_some (windows_value name) then meaning.Wrong else given_as name (value_of names word)
 
 -- what stands behind `let`: a name, `=` and a number
 abbrev pub let_of : NamesOf → List Word → Meaning
 let_of names (w ∷ equals ∷ number ∷ []) =
-    if bytes_eq equals.text (codes "=") then given_to names (name_of w.text) number.text
+    if bytes_eq equals.text (codes "=") then given_under names (name_of w.text) number.text
     else meaning.Wrong
 let_of names _ = meaning.Wrong
 
@@ -87,16 +87,16 @@ meant_by names None = meaning.Wrong
 meant_by names (Some text) =
     if nat_le (length text) most_line then phrase names text else meaning.Wrong
 
-abbrev pub or_else : Result Event LineFault → Meaning → Meaning
-or_else (Ok e) other = meaning.Says e
-or_else (Err f) other = other
+abbrev pub event_or : Result Event LineFault → Meaning → Meaning
+event_or (Ok e) other = meaning.Says e
+event_or (Err f) other = other
 
 -- What a line means, without its line feed, where these names were given: a plain line what it
 -- means to `mmsim`, another what its words stand for.
 unfoldable pub meant : NamesOf → Text → Meaning
 meant names line =
     if nat_le (length line) most_line
-    then or_else (parse line) (meant_by names (tidy_of (without_return line)))
+    then event_or (parse line) (meant_by names (tidy_of (without_return line)))
     else meaning.Wrong
 
 -- what it says is in the grammar

@@ -7,8 +7,9 @@ use Rattle.mm_types.specs.declared.events.Event.TheVariants as line
 use Rattle.mm_script.specs.{printed, parse}
 use Rattle.mm_names.specs.declared.meanings.Meaning.{Meaning}
 use Rattle.mm_names.specs.declared.meanings.Meaning.TheVariants as meaning
-use Rattle.mm_names.specs.Keys.{NamesOf, no_names, with_name}
+use Rattle.mm_names.specs.Keys.{NamesOf, no_names, with_given}
 use Rattle.mm_names.specs.Meaning.{meant}
+use Rattle.mm_script.specs.{is_machine}
 
 -- a UTF-8 mark may stand in front
 abbrev pub without_mark : Text → Text
@@ -22,17 +23,13 @@ last_line [] = []
 last_line (c ∷ cs) = (c ∷ cs) ∷ []
 
 -- the lines of a text, the first of which has begun so
-abbrev pub lines_from : Text → Text → List Text
-lines_from begun [] = last_line begun
-lines_from begun (c ∷ cs) =
-    if c == 10 then begun ∷ lines_from [] cs else lines_from (begun ++ c ∷ []) cs
+abbrev pub written_lines_from : Text → Text → List Text
+written_lines_from begun [] = last_line begun
+written_lines_from begun (c ∷ cs) =
+    if c == 10 then begun ∷ written_lines_from [] cs else written_lines_from (begun ++ c ∷ []) cs
 
-abbrev pub lines_of : Text → List Text
-lines_of text = lines_from [] (without_mark text)
-
-abbrev pub is_machine : Event → Bool
-is_machine (line.Machine m) = true
-is_machine _ = false
+abbrev pub written_lines : Text → List Text
+written_lines text = written_lines_from [] (without_mark text)
 
 -- the first event of a script is a machine, and no later one is
 abbrev pub may_stand : Bool → Event → Bool
@@ -46,7 +43,7 @@ placed_line begun m = m
 abbrev pub goes_on : Meaning → NamesOf → Bool
     → (NamesOf → Bool → Option (List Event)) → Option (List Event)
 goes_on meaning.Nothing names begun later = later names begun
-goes_on (meaning.Gives g) names begun later = later (with_name names g) begun
+goes_on (meaning.Gives g) names begun later = later (with_given names g) begun
 goes_on (meaning.Says e) names begun later = option_map (λ es. e ∷ es) (later names true)
 goes_on meaning.Wrong names begun later = None
 
@@ -58,8 +55,8 @@ events_of names begun (l ∷ ls) =
     goes_on (placed_line begun (meant names l)) names begun (λ ns b. events_of ns b ls)
 
 -- the script that a written file means
-unfoldable pub script_of : Text → Option (List Event)
-script_of text = events_of no_names false (lines_of text)
+unfoldable pub script_in : Text → Option (List Event)
+script_in text = events_of no_names false (written_lines text)
 
 -- the first event is a machine, and no other
 abbrev pub IsScript : List Event → Type 0
@@ -74,6 +71,6 @@ ArePlain (l ∷ ls) [] = ⊥
 ArePlain (l ∷ ls) (e ∷ es) = (parse l ≡ Ok e) × (length l ≤ 256) × ArePlain ls es
 
 -- the lines of events, as `mmsim` reads them
-abbrev pub spelled : List Event → Text
-spelled [] = []
-spelled (e ∷ es) = printed e ++ 10 ∷ spelled es
+abbrev pub spelled_events : List Event → Text
+spelled_events [] = []
+spelled_events (e ∷ es) = printed e ++ 10 ∷ spelled_events es

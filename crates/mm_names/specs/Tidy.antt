@@ -37,14 +37,14 @@ abbrev pub is_slashed : Text → Bool
 is_slashed [] = false
 is_slashed (c ∷ cs) = c == 0x2F
 
-abbrev pub is_letter : Sign → Bool
-is_letter sign.Letter = true
-is_letter _ = false
+abbrev pub is_letter_sign : Sign → Bool
+is_letter_sign sign.Letter = true
+is_letter_sign _ = false
 
 -- a word follows behind spaces
 abbrev pub word_follows : Text → Bool
 word_follows [] = false
-word_follows (c ∷ cs) = if is_space c then word_follows cs else is_letter (sign_of c)
+word_follows (c ∷ cs) = if is_space c then word_follows cs else is_letter_sign (sign_of c)
 
 -- a space follows, and behind it a word
 abbrev pub is_parted : Text → Bool

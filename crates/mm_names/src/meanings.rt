@@ -1,7 +1,7 @@
 ghost use Rattle.std.specs.Prelude.{◌≡◌, ◌<◌, ◌+◌, ◌^◌, ◌∷◌, length, IfOk, Option, None, Some};
 ghost use Rattle.mm_text.specs.{WordsOf, words_of, name_of};
 ghost use Rattle.mm_script.specs.{without_return};
-ghost use Rattle.mm_names.specs.Meaning.{meant, meant_by, phrase, sentence, let_of, given_to, said_in, FormedIn};
+ghost use Rattle.mm_names.specs.Meaning.{meant, meant_by, phrase, sentence, let_of, given_under, said_in, FormedIn};
 ghost use Rattle.mm_names.specs.Tidy.{tidy_of};
 
 use crate::names::{Given, Names, windows_value};
@@ -61,7 +61,7 @@ fn let_of(alloc: Global, names: &Names, text: &[u8], words: &mut Words) -> Resul
 
 /// A name for the number that a word is.
 fn given_to(alloc: Global, names: &Names, word: &[u8], number: &[u8]) -> Result<Meaning, NoMemory>
-    ensures { IfOk result (λ m. m ≡ given_to names.now (name_of word.now) number.now) }
+    ensures { IfOk result (λ m. m ≡ given_under names.now (name_of word.now) number.now) }
 {
     let Some(name) = name(word) else {
         return Ok(Meaning::Wrong);

@@ -4,7 +4,7 @@ ghost use Rattle.std.specs.Cmp.{partial_equiv_from_equiv};
 ghost use Rattle.std.specs.Cmp.Lexicographic.{on_texts_equal, bytes_decides};
 ghost use Rattle.std.specs.Hash as fed;
 ghost use Rattle.mm_types.specs.{Text};
-ghost use Rattle.mm_names.specs.Keys.{given_value, no_names, with_name};
+ghost use Rattle.mm_names.specs.Keys.{given_value, no_names, with_given};
 ghost use Rattle.mm_names.specs.Numbers.{value_among, memory_names, page_names, section_names, flag_names, windows_value};
 
 use crate::texts::among;
@@ -79,7 +79,7 @@ impl Names {
 
     /// Gives a name to a number.
     pub fn give(&mut self, given: &Given) -> Result<(), NoMemory>
-        ensures { OnOk result (self.new ≡ with_name self.old given.now) }
+        ensures { OnOk result (self.new ≡ with_given self.old given.now) }
     {
         self.values
             .insert(NameKey { name: given.name }, given.value)?;

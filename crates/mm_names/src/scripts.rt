@@ -1,7 +1,8 @@
 ghost use Rattle.std.specs.Prelude.{◌≡◌, ◌∷◌, [], List, Some, length, IfOk, OnOk};
 ghost use Rattle.mm_types.specs.{Event, Text};
-ghost use Rattle.mm_names.specs.Scripts.{is_machine, may_stand, placed_line, lines_from, lines_of, without_mark, script_of, IsScript, ArePlain};
-ghost use Rattle.mm_names.specs.Stages.{unread, with_event, with_meaning, with_line, with_lines, is_whole, Ends};
+ghost use Rattle.mm_names.specs.Scripts.{may_stand, placed_line, written_lines_from, written_lines, without_mark, script_in, IsScript, ArePlain};
+ghost use Rattle.mm_script.specs.{is_machine};
+ghost use Rattle.mm_names.specs.Stages.{unread, with_event, with_meaning, with_written_line, with_lines, is_whole, ScriptEnds};
 
 use crate::meanings::{Meaning, meant};
 use crate::names::Names;
@@ -149,7 +150,7 @@ impl Script {
 
     /// A written line, without its line feed.
     pub fn take_line(&mut self, alloc: Global, line: &[u8]) -> Result<(), NoMemory>
-        ensures { OnOk result (self.new ≡ with_line self.old line.now) }
+        ensures { OnOk result (self.new ≡ with_written_line self.old line.now) }
     {
         // The check of a meaning that is let go wants the types inside an event named here.
         let _event: Option<Event> = None;
@@ -169,8 +170,8 @@ fn take_byte(
     byte: u8,
 ) -> Result<(), NoMemory>
     ensures { OnOk result ((rest : Text)
-        → with_lines script.old (lines_from line.old.items (byte ∷ rest))
-        ≡ with_lines script.new (lines_from line.new.items rest)) }
+        → with_lines script.old (written_lines_from line.old.items (byte ∷ rest))
+        ≡ with_lines script.new (written_lines_from line.new.items rest)) }
 {
     if byte == b'\n' {
         script.take_line(alloc, line.as_slice())?;
@@ -183,7 +184,7 @@ fn take_byte(
 
 /// Reads all lines of a text.
 fn read_lines(alloc: Global, text: &[u8]) -> Result<Script, NoMemory>
-    ensures { IfOk result (λ s. s ≡ with_lines unread (lines_from [] text.now)) }
+    ensures { IfOk result (λ s. s ≡ with_lines unread (written_lines_from [] text.now)) }
 {
     let mut script = Script::new(alloc);
     let mut line = Vec::new(alloc);
@@ -199,7 +200,7 @@ fn read_lines(alloc: Global, text: &[u8]) -> Result<Script, NoMemory>
 /// The script that a written file means, as far as its lines mean something.
 #[tactic(auto, using(crate::proofs::Story::story))]
 pub fn translated(alloc: Global, text: &[u8]) -> Result<Script, NoMemory>
-    ensures { IfOk result (λ s. Ends (script_of text.now) s) }
+    ensures { IfOk result (λ s. ScriptEnds (script_in text.now) s) }
 {
     read_lines(alloc, without_mark(text))
 }
@@ -207,13 +208,13 @@ pub fn translated(alloc: Global, text: &[u8]) -> Result<Script, NoMemory>
 /// What a file means is a script: its first event is a `machine`, and no other is.
 #[tactic(auto, using(crate::proofs::Opening::opening))]
 pub fn scripts_begin()
-    ensures { (text : Text) (events : List Event) → script_of text ≡ Some events → IsScript events }
+    ensures { (text : Text) (events : List Event) → script_in text ≡ Some events → IsScript events }
 {}
 
 /// A file of lines that `mmsim` takes means their events, where these are a script.
 #[tactic(auto, using(crate::proofs::Opening::opening))]
 pub fn plain_files_stay()
     ensures { (text : Text) (events : List Event)
-        → ArePlain (lines_of text) events → IsScript events
-        → script_of text ≡ Some events }
+        → ArePlain (written_lines text) events → IsScript events
+        → script_in text ≡ Some events }
 {}

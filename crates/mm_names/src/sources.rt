@@ -1,6 +1,6 @@
 ghost use Rattle.std.specs.Prelude.{◌≡◌, ◌≤◌, Option, length, IfOk, IfErr, IsErrOf};
 ghost use Rattle.mm_types.specs.{Rose, Text};
-ghost use Rattle.mm_names.specs.{WasRead, CameTo, most_bytes};
+ghost use Rattle.mm_names.specs.{WasReadWhole, CameTo, most_bytes};
 
 use crate::endings::Ending;
 use mm_io::Source;
@@ -14,7 +14,7 @@ const MOST_BYTES: usize = 100_000_000;
 /// All that a source gives: no more than a written file may have.
 pub fn read_all<S: Source>(alloc: Global, source: &mut S) -> Result<Vec<u8>, Ending>
     ensures read { IfOk result (λ text.
-        WasRead (S.left source.old) (S.left source.new) text.items) }
+        WasReadWhole (S.left source.old) (S.left source.new) text.items) }
     ensures few { IfOk result (λ text. length text.items ≤ most_bytes) }
     ensures err { IfErr result (λ e. (took : Option Text)
         → CameTo e (S.left source.old) (S.left source.new) took took) }

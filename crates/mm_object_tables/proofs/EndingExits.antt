@@ -18,7 +18,8 @@ use Rattle.mm_world.specs.{change_rows}
 use Rattle.mm_world.specs.WellFormed.{WellFormed}
 use Rattle.mm_world.proofs.{charge-set_process, ProcessGoes, and-true}
 use Rattle.mm_store.specs.Behind.{Behind}
-use Rattle.mm_store.specs.{AreAmong, place_at, Turn, Turns, page_rank, PassesIn, StoreOf, changed, rearranged, changed_in, own_key, leaving}
+use Rattle.mm_store.specs.{AreAmong, place_at, Turn, Turns, page_rank, PassesIn, StoreOf, rearranged, changed_in, own_key, leaving}
+use Rattle.mm_move_rules.specs.{changed}
 use Rattle.mm_store.specs.Housekeeping.{Ends}
 use Rattle.mm_store.specs.Leaving.{Leaving}
 use Rattle.mm_store.proofs.{ends_then, ends_meet, ends_wider}

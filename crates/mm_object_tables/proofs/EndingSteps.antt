@@ -33,7 +33,7 @@ use Rattle.mm_object_tables.proofs.SectionFits.{fits_processes, with_open_of}
 use Rattle.mm_object_tables.proofs.Rows.{paging-set_process, in_range, regions_of}
 use Rattle.mm_types.specs.declared.moves.LineKind.TheVariants as line_kind
 use Rattle.mm_world.proofs.Edits.{Regions}
-use Rattle.mm_address_spaces.specs.{rows_of, marked_in, found_info, RegionInfo, RegionsOf}
+use Rattle.mm_address_spaces.specs.{rows_of_range, marked_in, found_info, RegionInfo, RegionsOf}
 use Rattle.mm_object_tables.proofs.Settled.{can_release, region_gone, ends, is_around, around_is, whole_inside, whole_range, some_pages}
 
 -- ---- counted sections
@@ -553,7 +553,7 @@ module _ (t : Tables) (pid : Pid) (p : ProcessOf (Unit {0})) (i : ℕ) (r : Regi
   -- what the commit charge has of a view
   pub marked_charge : (v : View) → r.kind ≡ kind.View v → marked_in p.regions range ≡ region_charge r
   marked_charge v is =
-      ap (λ o. count_by (λ (row : RowOf (Unit {0})). row.marked) (rows_of range o)) (around_is t pid.0 p i r range lives sound at (whole_inside r range pages) some)
+      ap (λ o. count_by (λ (row : RowOf (Unit {0})). row.marked) (rows_of_range range o)) (around_is t pid.0 p i r range lives sound at (whole_inside r range pages) some)
       ∙ ap (λ (range : Range). count_by (λ (row : RowOf (Unit {0})). row.marked) (in_range range r)) (sym pages) ∙ ap (count_by (λ (row : RowOf (Unit {0})). row.marked)) (whole_range r)
       ∙ ap (λ (k : Kind). count_by (is_charged k) r.rows) (sym is)
 

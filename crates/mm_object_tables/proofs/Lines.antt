@@ -17,7 +17,8 @@ use Rattle.mm_world.specs.{OutcomeOf, done, need, file_named, settled_area, Proc
 use Rattle.mm_world.specs.{content_of, holds, views, no_regions, with_slots, most_processes, most_slots, most_fails, first_world}
 use Rattle.mm_world.specs.WellFormed.{WellFormed}
 use Rattle.mm_world.proofs.{less, count_by-never, each-append, new_file_keeps, ProcessComes}
-use Rattle.mm_store.specs.{StoreOf, changed, with_file, with_blocks, rearranged, wrote, Served, IsNew}
+use Rattle.mm_store.specs.{StoreOf, with_file, with_blocks, rearranged, wrote, Served, IsNew}
+use Rattle.mm_move_rules.specs.{changed}
 use Rattle.mm_sections.specs.{CountedSection}
 use Rattle.mm_object_tables.specs.{is_page_of, CanFill, Come, FitsTables, IsTidy, AreKeptTables, shown_processes, before_process, is_paging, file_block_in}
 use Rattle.mm_object_tables.specs.{owned_keys, handles_in, views_in, tables_with, shown_accesses}

@@ -8,7 +8,9 @@ use Rattle.mm_types.specs.declared.numbers.Key.TheVariants as key
 use Rattle.mm_types.proofs.{same_or_not, same_tests, and_false, spread, or_left, or_right, by_either, cond_twice, both, none_of, some_found}
 use Rattle.mm_world.specs.{Page, filled, RegionOf, same_key, own_page, AreaOf, numbered}
 use Rattle.mm_world.proofs.{and-true, same_again, numbered_inside}
-use Rattle.mm_store.specs.{StoreOf, changed, same_place, is_place_in, rearranged, place_at, changed_in, own_key, MayRemove, IsReleasing, AllBound}
+use Rattle.mm_store.specs.{StoreOf, is_place_in, rearranged, place_at, changed_in, own_key, MayRemove, IsReleasing, AllBound}
+use Rattle.mm_move_rules.specs.{same_place}
+use Rattle.mm_move_rules.specs.{changed}
 use Rattle.mm_object_tables.specs.{is_key_in, with_range_keys, flags_set_in, passing, is_page_live, is_page_dead, one_page_range, Adds, CanAdd, Come}
 use Rattle.mm_object_tables.specs.{with_flags, with_live, first_pages, Effect, Makes, Leaves, RangeStored, CanMake, contents_by, paging_by, new_pages}
 use Rattle.mm_object_tables.specs.{store_beside, NewPlaces, MoreRoom, owned_among, KnownAt, KnownIn, is_owned_among, without_keys, without_paging}

@@ -19,13 +19,15 @@ use Rattle.mm_world.proofs.{charge-set_region, charge-set_regions, charge-remove
 use Rattle.mm_world.proofs.{private_kind, flags_stay, and-true, free_of, IsPlaced, reserved_fits, commit_fits, private_flags, RegionChanges}
 use Rattle.mm_world.proofs.{RegionGoes, RegionComes, charge-set_row, charge-guard_off, each-at, each-set, Stands, found_stands, committed_is}
 use Rattle.mm_world.proofs.{IsCommitted, Inside as Within, flags_changed}
-use Rattle.mm_address_spaces.specs.{rows_of, PageRow, told_page_row, told_row, RegionsOf}
+use Rattle.mm_address_spaces.specs.{rows_of_range, PageRow, told_page_row, told_row, RegionsOf}
 use Rattle.mm_object_tables.specs.{paging_count, new_pages, newly_marked, new_marks, Effect, Makes, Ends, Leaves, after, Moves, keys_of, key_in, FitsTables}
 use Rattle.mm_object_tables.specs.{CanCopy, copied, key_at, one_page_range, with_range_keys, flags_set_in, is_key_in, Process, AreKeptTables, with_space}
 use Rattle.mm_object_tables.proofs.Keeping.{StandIn, Held, regions_by, still_kept, shown_with, same_tables, kept_same}
 use Rattle.mm_object_tables.proofs.Lists.{get-change_range, count-change_range, count-all, count-same, count-replicate, one_if}
 use Rattle.mm_object_tables.proofs.Rows.{own_rows, paging-set_region, paging-add_region, home_key, region_key, key_in_has, has, within, some_cond, SamePages, reserved_set, found_cond, has_set, has_at, has_added, has_removed, Inside, has_own, in_range, place_between, own_of_changed, same_pages, private_charge, outside, moved, regions_set_same, key_at_is}
-use Rattle.mm_store.specs.{StoreOf, changed, changed_in, same_place, own_key, place_at}
+use Rattle.mm_store.specs.{StoreOf, changed_in, own_key, place_at}
+use Rattle.mm_move_rules.specs.{same_place}
+use Rattle.mm_move_rules.specs.{changed}
 use Rattle.mm_object_tables.specs.declared.tables.Tables.TheInside.{Inside as InTables}
 use Rattle.mm_object_tables.proofs.PageByPage.{set_only, own, key_in_only, place_in_only, same_place_is}
 
@@ -94,7 +96,7 @@ protect_count rs range r prot found =
         omega (arith, count-change_range has_own (protected kind.Private prot) (range.first - r.thing.base) range.count r.thing.rows, same)
     by_kind (kind.View v) =
         let unmarked : newly_marked (kind.View v) rs range prot ≡ cond (base_of prot == 0x08) (count_by (λ row. not row.marked) rows) 0 =
-        ap (λ o. cond (base_of prot == 0x08) (count_by (λ row. not row.marked) (rows_of range o)) 0) found in
+        ap (λ o. cond (base_of prot == 0x08) (count_by (λ row. not row.marked) (rows_of_range range o)) 0) found in
         omega (arith, by_base v (base_of prot == 0x08) refl, unmarked)
 
 -- ---- the rows of a range are changed

@@ -21,10 +21,10 @@ use Rattle.mm_world.specs.WellFormed.{WellFormed}
 use Rattle.mm_world.proofs.{each-at, every_page-at, is_placed, same_place, found_stands, own_in, charge-set_region, private_kind, and-true, or-false}
 use Rattle.mm_world.proofs.{laid_at, apart_too, holds_first, lies, rows_committed, rows_cleared, rows_protected}
 use Rattle.mm_store.specs.{place_at, StoreOf, Ghosts as PageStoreGhosts, AreAmong, leaving, page_rank}
-use Rattle.mm_address_spaces.specs.{owned_in, rows_of}
+use Rattle.mm_address_spaces.specs.{owned_in, rows_of_range}
 use Rattle.mm_object_tables.specs.{CanMake, key_in, Effect, Makes, Ends, Leaves, RangeStored, Moves, Roomier, keys_of, FitsTables, key_at, new_pages}
 use Rattle.mm_object_tables.specs.{new_marks, paging_count, owned_keys, CarriesPages, Settled, store_beside, CanRelease, GivenUp, CanAdd, passing}
-use Rattle.mm_object_tables.specs.{is_page_live, is_page_dead, SettlesTables, is_uncommitted, GivesUp, Frees}
+use Rattle.mm_object_tables.specs.{is_page_live, is_page_dead, SettlesTables, is_uncommitted, GivesUpPages, Frees}
 use Rattle.mm_object_tables.proofs.Lists.{found-cons, one_if}
 use Rattle.mm_object_tables.proofs.Rows.{private_paging, moved, carries_by, carries_same, own_rows, paging-remove_region, regions_of_process, reserved_is, content_is, home_key, region_key, key_in_has, key_at_is, private_home, has_at, holds, Inside, inside, has_own, in_range, holds_too, passing_owned, private_charge, charge_of_commit}
 use Rattle.mm_object_tables.proofs.PageByPage.{passing_all, next_held, stored}
@@ -148,7 +148,7 @@ around rs range r e =
     record {
       at = stands.there;
       inside = inside range (pages_of r.thing) stands.passes;
-      owned = ap (λ o. count_by has_own (rows_of range o)) e;
+      owned = ap (λ o. count_by has_own (rows_of_range range o)) e;
     }
 
 -- regions lie apart, so the one that has a range is found around it
@@ -232,7 +232,7 @@ module _ (t : Tables) (pid : ℕ) (p : ProcessOf (Unit {0})) (i : ℕ) (r : Regi
 
   pub whole_owned : owned_in p.regions range ≡ own_rows r
   whole_owned =
-      ap (λ o. count_by has_own (rows_of range o)) (around_is t pid p i r range lives h at (whole_inside r range pages) some_pages)
+      ap (λ o. count_by has_own (rows_of_range range o)) (around_is t pid p i r range lives h at (whole_inside r range pages) some_pages)
       ∙ ap (λ (range : Range). count_by has_own (in_range range r)) (sym pages) ∙ ap (count_by has_own) (whole_range r)
 
 -- ---- nothing but room
@@ -263,7 +263,7 @@ pub out_of_memory : {G : Type 0} (gs : PageStoreGhosts G) {T : Type 0} (result :
 out_of_memory gs result fits same more = record { err = on_err result (same, more.contents); settled = roomier_settled fits same more }
 
 -- both change together: pages of a range of a process go
-pub frees : {G : Type 0} (gs : PageStoreGhosts G) {goes : Bool} {pid : Pid} {range : Range} {old new : Tables} {g h : G} → Settled new (gs.contents g) (gs.contents h) (gs.store g) (gs.store h) → AreAmong (leaving old pid.0 (is_uncommitted new)) 1 (page_rank end_of_user_pages) pid range → GivesUp gs goes pid range g h → Frees gs pid range old new g h
+pub frees : {G : Type 0} (gs : PageStoreGhosts G) {goes : Bool} {pid : Pid} {range : Range} {old new : Tables} {g h : G} → Settled new (gs.contents g) (gs.contents h) (gs.store g) (gs.store h) → AreAmong (leaving old pid.0 (is_uncommitted new)) 1 (page_rank end_of_user_pages) pid range → GivesUpPages gs goes pid range g h → Frees gs pid range old new g h
 frees gs settled among gives = record { settled = settled; among = among; passes = gives.passes; loans = gives.loans }
 
 pub settled_as : {t after : Tables} {c d : Key → Option Page} {s z : StoreOf} → after ≡ t → Settled t c d s z → Settled after c d s z

@@ -20,7 +20,8 @@ use Rattle.std.specs.Cmp.{unsigned_Decides}
 use Rattle.mm_types.specs.{Key, Area, Range, Kind, end_of_user_pages, first_user_page, end_of, lies_within, Pid, View, base_of, is_free, reserve_type}
 use Rattle.mm_types.specs.{limit_of}
 use Rattle.mm_types.specs.declared.numbers.Key.TheVariants as key
-use Rattle.mm_store.specs.{StoreOf, changed, rearranged, AllBound}
+use Rattle.mm_store.specs.{StoreOf, rearranged, AllBound}
+use Rattle.mm_move_rules.specs.{changed}
 use Rattle.mm_sections.specs.{uncommitted_in, CountedSection, DirectoryOf, HandlesOf, sections_of, one_view_more}
 use Rattle.mm_object_tables.proofs.Rows.{some_cond, holds_not, at_added, within, inside, Inside as LiesIn, own_rows, paging-add_region}
 use Rattle.mm_object_tables.proofs.Lists.{count-next, is_between, by_cell, numbered_got, get-change_range, count-change_range, count-all, length-range, area_in, same_number, same_some, count-replicate, if_some}

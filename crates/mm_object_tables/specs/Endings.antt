@@ -6,7 +6,8 @@ use Rattle.mm_types.specs.{Area, Key, Pid, Place, Range, end_of, end_of_user_pag
 use Rattle.mm_types.specs.declared.numbers.Key.TheVariants as key
 use Rattle.mm_world.specs.{Page, AreaOf, RegionOf, ProcessOf, SectionOf, numbered, no_area, area_at, process_of, section_of, set_process, own_page}
 use Rattle.mm_world.specs.{settle, same_key, Tables}
-use Rattle.mm_store.specs.{StoreOf, changed, changed_in, own_key, rearranged, section_rank, AllBound, MayRemove, IsReleasing, place_at}
+use Rattle.mm_store.specs.{StoreOf, changed_in, own_key, rearranged, section_rank, AllBound, MayRemove, IsReleasing, place_at}
+use Rattle.mm_move_rules.specs.{changed}
 use Rattle.mm_object_tables.specs.Effects.{Effect, Ends, Leaves, bound_by}
 use Rattle.mm_object_tables.specs.Fits.{FitsTables, store_beside}
 use Rattle.mm_object_tables.specs.Ranges.{is_key_in}

@@ -9,7 +9,9 @@ use Rattle.mm_world.specs.{most_slots, flush, flushed_view, flushed_range, is_fa
 use Rattle.mm_address_spaces.specs.{unmarked_in}
 use Rattle.mm_types.specs.declared.views.Kind.TheVariants as view_kind
 use Rattle.mm_world.specs.Report.{Report}
-use Rattle.mm_store.specs.{StoreOf, changed, same_place, own_key, rearranged, begun, called, wrote}
+use Rattle.mm_store.specs.{StoreOf, own_key, rearranged, begun, called, wrote}
+use Rattle.mm_move_rules.specs.{same_place}
+use Rattle.mm_move_rules.specs.{changed}
 
 -- the bytes of a key; of one that is not live zeros
 abbrev pub key_bytes : (Key → Option Page) → Key → Page

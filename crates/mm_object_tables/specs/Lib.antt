@@ -42,7 +42,7 @@ pub use Endings.{places_by, shared_at, without_keys, without_names, without_pagi
 pub use ViewChanges.{CanShare, MoreRoom, NewPlaces, Shares, is_shared_in, listed_area, living}
 pub use ViewChanges.{region_of_view, section_of_view}
 pub use Promises.{AddsKeys, AddsOwn, BindsPlaces, CanBind, CanProtectAll, CommitsInView}
-pub use Promises.{CommitsPages, Frees, GivesUp, GivesUpOwn, IdlesOver, IsNewPlace, IsNewRange}
+pub use Promises.{CommitsPages, Frees, GivesUpPages, GivesUpOwn, IdlesOver, IsNewPlace, IsNewRange}
 pub use Promises.{IsReadyFor, LosesReference, MakesPages, MakesWithin, Nears, PassesAs}
 pub use Promises.{SettlesTables, SharesPages, Shrinks, StartsProcess, StaysIdle}
 pub use FilePromises.{BlamesDevice, IsNewFile, MakesFile, NotesFile, StoresFile}

@@ -125,7 +125,7 @@ module _ {G : Type 0} (p : PageStoreGhosts G) where
     pub loans : p.loans h ≡ p.loans g
 
   -- pages of this range of a process are given up
-  pub record GivesUp (goes : Bool) (pid : Pid) (range : Range) (g h : G) : Type 0 where
+  pub record GivesUpPages (goes : Bool) (pid : Pid) (range : Range) (g h : G) : Type 0 where
     pub given_up : GivenUp goes pid range
         (passing (is_page_live pid (p.contents g)) range.first range.count) (p.contents g)
         (p.contents h) (p.store g) (p.store h)

@@ -4,7 +4,8 @@ use Rattle.mm_types.specs.{Area, Key}
 use Rattle.mm_types.specs.declared.numbers.Key.TheVariants as key
 use Rattle.mm_types.specs.declared.moves.LineKind.TheVariants as kind
 use Rattle.mm_world.specs.{Page}
-use Rattle.mm_store.specs.{StoreOf, changed, rearranged}
+use Rattle.mm_store.specs.{StoreOf, rearranged}
+use Rattle.mm_move_rules.specs.{changed}
 use Rattle.mm_sections.specs.{DirectoryOf, HandlesOf}
 use Rattle.mm_object_tables.specs.Ranges.{with_flags, with_live}
 

@@ -2,7 +2,7 @@ ghost use Rattle.std.specs.Prelude.{◌≡◌, ◌≤◌, ◌<◌, ◌+◌, ℕ,
 ghost use Rattle.mm_types.specs.{end_of, end_of_user_pages};
 ghost use Rattle.mm_object_tables.specs.{low_half, high_half, CanAdd, one_page_range, KnownAt, KnownIn, is_owned_at, CanGo, CanGoAll, Gone, is_owned_among};
 ghost use Rattle.mm_object_tables.specs.{owned_among, shared_at, is_committed_in, CanGiveUp, GivenUp, CanRelease, CanEnd, Emptied, ended_area, EndsArea};
-ghost use Rattle.mm_object_tables.specs.{AddsOwn, GivesUp, GivesUpOwn, PassesAs};
+ghost use Rattle.mm_object_tables.specs.{AddsOwn, GivesUpPages, GivesUpOwn, PassesAs};
 ghost use Rattle.mm_store.specs.{IsAmong, place_at, page_rank};
 ghost use Rattle.mm_world.specs.{own_page, area_charge, same_key, no_area, region_around};
 ghost use Rattle.mm_store.specs.Housekeeping.{Ends};
@@ -237,7 +237,7 @@ pub(crate) fn release_pages<G: PageStore>(
     requires around { is_some (region_around space.now.regions range) ≡ true }
     requires can { CanRelease goes pid range space.now.regions (G.contents g.old) (G.store g.old) }
     ensures owned { result ≡ owned_in space.now.regions range }
-    ensures gives_up { GivesUp G.PageStore goes pid range g.old g.new }
+    ensures gives_up { GivesUpPages G.PageStore goes pid range g.old g.new }
 {
     let owned = space.owned(range);
     release_some(g, space, pid, range, owned, goes);

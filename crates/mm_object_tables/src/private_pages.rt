@@ -3,7 +3,8 @@ ghost use Rattle.mm_types.specs.{end_of, end_of_user_pages, are_user_pages, hold
 ghost use Rattle.mm_world.specs.{RegionOf, Found, region_around, add_region, is_private, private_region, blank, private_at, is_protection_among};
 ghost use Rattle.mm_world.specs.{private_protections, commit, reserved_row, change_rows, ProcessOf, pages_of, process_of, set_region, set_regions};
 ghost use Rattle.mm_world.specs.{end_stacks, charge, limit, is_stack_at};
-ghost use Rattle.mm_store.specs.{MakesFrom, changed};
+ghost use Rattle.mm_store.specs.{MakesFrom};
+ghost use Rattle.mm_move_rules.specs.{changed};
 ghost use Rattle.mm_object_tables.specs.{Makes, Leaves, RangeStored, Roomier, CanMake, keys_of, new_pages, IsNewRange, CanBind, PassesAs, IdlesOver};
 ghost use Rattle.mm_object_tables.specs.{MakesWithin, AddsKeys, BindsPlaces, CommitsPages, IsReadyFor, SettlesTables, Frees, CanAdd, StandsFrom};
 ghost use Rattle.mm_object_tables.specs.{is_page_live, MoreRoom, Less};

@@ -10,7 +10,7 @@ use Rattle.std.specs.Prelude.{IsSome, is_some, replicate, slice_index, ◌==◌,
 use Rattle.std.specs.Int.{bit_at}
 use Rattle.std.proofs.lemmas.Nat.Bits.{bit_at_ones, bit_at-zero}
 use Rattle.mm_bits.specs.{have_bit, Becomes, SameWordsFrom}
-use Rattle.mm_bits.proofs.{zero_bit}
+use Rattle.mm_bits.proofs.{extended, zero_bit}
 use Rattle.mm_page_tables.specs.{leaf_pages, bit_numbers, leaf_numbers, leaf_word, place_count, stored_word, shown_leaf, IsLeaf, Changed, number_when}
 use Rattle.mm_page_tables.specs.{word_when, pages, Reserves, Releases, AreReserved, LeavesOf, leaf_of, word_in, numbers_from, end_of_pages, most_leaves}
 use Rattle.mm_page_tables.specs.{directory_words, IsWholeLeaf, IsDirectory, IsInLeaf, with_leaf, with_leaf_word, SameWords, PlacesMore}
@@ -106,17 +106,6 @@ same_bit old new i e = ap (λ (n : ℕ). bit_at n (i % 64) == 1) e
 same_page_word : (old new : List ℕ) (i : ℕ) → have_bit new i ≡ have_bit old i → get_or new (bit_numbers + i) 0 ≡ get_or old (bit_numbers + i) 0 → stored_word new i ≡ stored_word old i
 same_page_word old new i bit word =
     ap (λ (b : Bool). cond b (Some (get_or new (bit_numbers + i) 0)) None) bit ∙ ap (λ (n : ℕ). cond (have_bit old i) (Some n) None) word
-
--- zeros at the end change no number
-extended : (ns : List ℕ) (n i : ℕ) → get_or (ns ++ replicate n 0) i 0 ≡ get_or ns i 0
-extended ns n i = elim (cases_lt i (length ns)) [
-  | inl near ↦ get_or_append_left ns (replicate n 0) 0 i near
-  | inr far ↦
-      get_or-append_right ns (replicate n 0) (length ns) i 0 refl far ∙ (elim (cases_lt (i - length ns) n) [
-        | inl inside ↦ get_or-replicate n (i - length ns) 0 0 inside
-        | inr past ↦ get_or_past (replicate n 0) (i - length ns) 0 (omega (arith, past, length-replicate {A = ℕ} n 0))
-      ]) ∙ sym (get_or_past ns i 0 far)
-]
 
 -- one word is set, after zeros were added at the end
 module _ (capacity capacity' : ℕ) (old mid : List ℕ) (n at word : ℕ) (leaf : IsLeaf capacity old) (is : mid ≡ old ++ replicate n 0) (low : at < place_count old) (set_before : have_bit old at ≡ true) (long : bit_numbers + at < length mid) where

@@ -2,7 +2,7 @@ ghost use Rattle.std.specs.Prelude.{◌≡◌, ◌+◌, ◌-◌, ◌<◌, ◌≤
 ghost use Rattle.mm_bits.specs.{have_bit, Becomes, SameWordsFrom};
 ghost use Rattle.mm_page_tables.specs.LeafWords.{leaf_pages, bit_numbers, leaf_numbers, leaf_word, Changed, word_when, number_when};
 
-use mm_bits::put_bits;
+use mm_bits::{extend, put_bits, reach};
 use mm_types::NoMemory;
 use std::alloc::Global;
 use std::marker::Model;
@@ -35,39 +35,6 @@ impl Model for Leaf {
     ghost view = { λ l. shown_leaf l.numbers.items };
 
     ghost invariant = { λ l. IsLeaf (vec_capacity l.numbers) l.numbers.items };
-}
-
-/// Adds zeros at the end until there are `n` numbers, if there are fewer.
-#[cold]
-#[inline(never)]
-fn extend_to(numbers: &mut Vec<u64>, n: usize)
-    requires { n ≤ vec_capacity numbers.old }
-    ensures items { numbers.new.items ≡ numbers.old.items ++ replicate (n - vec_len numbers.old) 0 }
-    ensures capacity { vec_capacity numbers.old ≤ vec_capacity numbers.new }
-{
-    if numbers.len() < n {
-        match numbers.resize(n, 0) {
-            Ok(()) => {}
-            Err(_) => unreachable!(),
-        }
-    }
-}
-
-/// Adds zeros at the end, if need be, so that there is a number at this index.
-#[inline(always)] // nearly always it is there
-fn reach(numbers: &mut Vec<u64>, i: usize)
-    requires within { i < leaf_numbers }
-    requires room { leaf_numbers ≤ vec_capacity numbers.old }
-    requires few { length numbers.old.items ≤ leaf_numbers }
-    ensures items { numbers.new.items
-        ≡ numbers.old.items ++ replicate (vec_len numbers.new - vec_len numbers.old) 0 }
-    ensures there { i < length numbers.new.items }
-    ensures few { length numbers.new.items ≤ leaf_numbers }
-    ensures capacity { vec_capacity numbers.old ≤ vec_capacity numbers.new }
-{
-    if i >= numbers.len() {
-        extend_to(numbers, (i + 64).min(BIT_NUMBERS + LEAF_PAGES));
-    }
 }
 
 /// The bits of all pages are like this from now on.
@@ -130,7 +97,7 @@ impl Leaf {
         ensures { IfOk result (λ l. l ≡ replicate leaf_pages None) }
     {
         let mut numbers = Vec::with_capacity(alloc, BIT_NUMBERS + LEAF_PAGES)?;
-        extend_to(&mut numbers, BIT_NUMBERS);
+        extend(&mut numbers, BIT_NUMBERS)?;
         Ok(Leaf { numbers })
     }
 
@@ -156,7 +123,11 @@ impl Leaf {
         requires { IsSome (leaf_word self.old at) }
         ensures { self.new ≡ slice_set self.old at (Some word) }
     {
-        reach(&mut self.numbers, BIT_NUMBERS + at);
+        reach(
+            &mut self.numbers,
+            BIT_NUMBERS + at,
+            BIT_NUMBERS + LEAF_PAGES,
+        );
         self.numbers[BIT_NUMBERS + at] = word;
     }
 

@@ -6,17 +6,18 @@ use Rattle.mm_types.specs.declared.numbers.Key.TheVariants.{Private, Shared}
 use Rattle.mm_move_rules.specs.{is_shared, fits_place, record_at, FrameLife, changed, same_key, same_place, key_of_place, owner_is, shows_shared, zero_page}
 use Rattle.mm_move_rules.specs.{is_empty, is_first, is_live, is_read, is_touch, is_zero, IsLegal, touches, ResidentSet, with_record, unshared, shared}
 use Rattle.mm_move_rules.specs.{is_dead, set_of, is_below_max, after_unmap_at}
-use Rattle.mm_store.specs.{Aim, is_framed, ByCopy, touch}
+use Rattle.mm_store.specs.{Aim, IsSoiledFor, is_copied, is_framed, key_shown, key_written, ByCopy, touch}
+use Rattle.mm_frame_laws.specs.{is_calm}
 use Rattle.mm_state_calls.specs.{StateOf, Searched, moved_with_call, StateHolds, Made, moved}
-use Rattle.mm_pager.specs.{AccessBegins, Faulted, Went, Reaches, Readied, most_reads, IsFresh, TookFrame, LifeKept, HeldAt, KeyAdded, Pins, Copied}
-use Rattle.mm_pager.specs.{MayCopy, MayCopyHeld, CopyGiven, CopyPut, Readies, Zeroed, InQuietFrame}
+use Rattle.mm_pager.specs.{AccessBegins, Faulted, Went, Reaches, Readied, most_reads, IsFresh, TookFrame, LifeKept, HeldAt, KeyAdded, Pins, CopyMapped}
+use Rattle.mm_pager.specs.{MayCopy, MayCopyHeld, CopyGiven, CopyPut, Readies, InQuietFrame, IsUncopied}
 use Rattle.mm_pager.proofs.AccessMoves.{went_nothing, flight_same, went_then, sought_then, added_then, added_behind, piece_of, kept_made, kept_then, moved_on, went_one, settled_record, look_set}
-use Rattle.mm_pager.proofs.Ending.{named_then, not_here}
+use Rattle.mm_pager.proofs.Ending.{at_place, named_then, not_here}
 use Rattle.mm_types.specs.declared.frames.Held.TheVariants as held
 use Rattle.mm_move_laws.proofs.{changed_else, changed_here, same_place-self}
 use Rattle.mm_store.specs.Told.{Told}
-use Rattle.mm_pager.proofs.Taking.{changed_twice, Ready, first_there, readied_ready, ready_now, took_ready, touches_touch, went_give, own_test, map_legal, unmapped_stands, went_map}
-use Rattle.mm_pager.proofs.FaultSteps.{search_left, sought_pinned, gives}
+use Rattle.mm_pager.proofs.Taking.{changed_twice, Ready, first_there, readied_ready, ready_now, took_ready, touches_touch, went_given, copy_still, soiled_for, own_test, map_legal, unmapped_stands, went_map}
+use Rattle.mm_pager.proofs.FaultSteps.{MaySeek, search_left, sought_pinned, gives}
 use Rattle.mm_types.specs.declared.moves.Move.TheVariants as move
 use Rattle.mm_state_calls.proofs.{does_two}
 use Rattle.mm_parts.specs.{front, HasSet, left_by, MayMap, names_after_give, names_after_map}
@@ -25,8 +26,8 @@ use Rattle.mm_pager.proofs.LettingGo.{gone_then}
 
 -- ---- the page to be copied becomes valid at its place, in an access that makes a copy
 
-pub reaches_begins : (a : Aim) (k : Key) (place : Place) (s : StateOf) → s.life.valid place ≡ None → Reaches a k place s → AccessBegins a k s
-reaches_begins a k place s e r = record { needs = r.needs; from = r.from; at = ap s.life.valid r.at ∙ e }
+pub reaches_begins : (a : Aim) (k : Key) (place : Place) (s : StateOf) → s.life.valid place ≡ None → Reaches a k place s → IsUncopied a s → AccessBegins a k s
+reaches_begins a k place s e r u = record { needs = r.needs; from = r.from; at = ap s.life.valid r.at ∙ e; uncopied = u }
 
 -- a shared page fits any place
 pub shared_fits : (place : Place) (k : Key) → is_shared k ≡ true → fits_place place k ≡ true
@@ -36,7 +37,7 @@ shared_fits place (Shared a i) e = refl
 -- the page is valid
 pub there_readied : (k : Key) (f : Frame) (place : Place) (s : StateOf) → s.life.valid place ≡ Some f → s.names place ≡ Some k → Readied k f place s s
 there_readied k f place s v n = record {
-  went = λ a r. went_nothing a (most_reads (s.life.valid place)) s;
+  went = λ a r u. went_nothing a (most_reads (s.life.valid place)) s;
   held = record { valid = v; named = n };
   flight = flight_same s.life.flight (Some f) s.life refl;
   calm = record { read = refl; begun = λ e. e };
@@ -48,7 +49,7 @@ there_readied k f place s v n = record {
 -- or becomes so
 pub faulted_readied : (r : Result Frame PageFault) (k : Key) (place : Place) (s z : StateOf) → s.life.valid place ≡ None → IfOk r (λ f. Faulted k f place s z) → IfOk r (λ f. Readied k f place s z)
 faulted_readied (Ok f) k place s z e h = record {
-  went = λ a r. subst (λ (o : Option Frame). Went a (most_reads o) s z) (sym e) (h.went a r.at (reaches_begins a k place s e r));
+  went = λ a r u. subst (λ (o : Option Frame). Went a (most_reads o) s z) (sym e) (h.went a r.at (reaches_begins a k place s e r u));
   held = record { valid = h.placed.valid; named = named_then k place z.names s.names h.placed.names };
   flight = h.flight;
   calm = h.calm;
@@ -128,9 +129,9 @@ went_bytes a n s v c w = record {
   few_writes = w.few_writes;
 }
 
-pub went_held : (a : Aim) (place : Place) (f : Frame) (s t u v z : StateOf) → Pins a place f s → Searched (Some f) true s t → TookFrame a 0 t u → Went a 0 u v → z ≡ record v { contents = z.contents } → Went a 0 s z
-went_held a place f s t u v z p h q r e = subst (λ (x : StateOf). Went a 0 s x) (sym e)
-    (went_bytes a 0 s v z.contents (went_then a IsFresh 0 0 s u v (sought_then a IsFresh 0 s t u (sought_pinned a place f s t p h) q) r))
+pub went_held : (a : Aim) (place : Place) (f : Frame) (s t u v z : StateOf) → MaySeek s → Pins a place f s → Searched (Some f) true s t → TookFrame a 0 t u → Went a 0 u v → z ≡ record v { contents = z.contents } → Went a 0 s z
+went_held a place f s t u v z may p h q r e = subst (λ (x : StateOf). Went a 0 s x) (sym e)
+    (went_bytes a 0 s v z.contents (went_then a IsFresh 0 0 s u v (sought_then a IsFresh 0 s t u (sought_pinned a place f s t may p h) q) r))
 
 -- ---- what is there then
 
@@ -141,6 +142,7 @@ pub record Makes (k : Key) (place : Place) (f g : Frame) (s t u v z : StateOf) :
   pub gave : CopyGiven place g t u
   pub holds : StateHolds u
   pub put : CopyPut place g u v
+  pub left : StateHolds v
   pub bytes : z.contents ≡ changed same_key v.contents (key_of_place place) (v.contents k)
   pub rest : z ≡ record v { contents = z.contents }
 
@@ -170,10 +172,16 @@ module _ (k : Key) (place : Place) (f g : Frame) (s t u v z : StateOf) (m : Make
       ∙ sym (ap (λ (x : StateOf). record (moved_with_call s x) { names = x.names; aside = None; contents = z.contents }) m.rest)
       ∙ ap (λ (o : Option Place). record (moved_with_call s z) { names = z.names; aside = o; contents = z.contents }) (sym m.may.aside)
 
-  pub made_copied : Copied k place s z
+  copy_soiled : IsSoiledFor (key_of_place place) (record_at v.life.frames g.0)
+  copy_soiled = soiled_for (key_of_place place) (record_at v.life.frames g.0) (copied_to g place t u v m.left m.gave m.put)
+      (record { changed = m.put.flags g.0 ∙ m.gave.soiled.changed; calm = ap is_calm (m.put.quiet g.0) ∙ m.gave.soiled.calm })
+
+  pub made_copied : CopyMapped k place s z
   made_copied = record {
     life = made_life;
     valid = ap (λ (x : StateOf). is_some (x.life.valid place)) m.rest ∙ ap is_some m.put.valid;
+    soiled = λ x e. at_place (λ (y : Frame). IsSoiledFor (key_of_place place) (record_at z.life.frames y.0)) (z.life.valid place) g x (ap (λ (y : StateOf). y.life.valid place) m.rest ∙ m.put.valid) e
+        (subst (λ (y : StateOf). IsSoiledFor (key_of_place place) (record_at y.life.frames g.0)) (sym m.rest) copy_soiled);
     young = ap (λ (x : StateOf). x.ages place) m.rest ∙ m.put.young;
     names = ap (λ (x : StateOf). x.names) m.rest ∙ m.put.names ∙ ap (λ (n : Place → Option Key). changed same_place n place (Some (key_of_place place))) (m.gave.names ∙ ap (λ (x : StateOf). x.names) m.found.same);
     contents = made_contents;
@@ -209,9 +217,9 @@ may_copy k f place s t h m p =
 -- ---- A copy comes to be beside the tables, and gets a frame
 
 -- a frame is zeroed first
-took_added : (a : Aim) (k : Key) (f : Frame) (s x y z : StateOf) → Readies s x → Made (move.Add k None) x y → a.need.copy ≡ Some k → is_some (x.life.valid a.place) ≡ true → f ≡ front y.life.frames.zeroed → Made (move.Give f k) y z → TookFrame a 0 s z
-took_added a k f s x y z r m c v q g = took_ready a IsFresh 0 s x z r
-    (λ t. piece_of a IsFresh false 0 1 0 t (move.Add k None ∷ move.Give f k ∷ []) x z (does_two (move.Add k None) (move.Give f k) x y z m g) ((c, v, (f, refl)), (inr c, tt)) refl refl (omega arith) (omega arith))
+took_added : (a : Aim) (k : Key) (f : Frame) (s x y z : StateOf) → StateHolds s → s.contents k ≡ None → Readies s x → Made (move.Add k None) x y → a.need.copy ≡ Some k → is_some (s.life.valid a.place) ≡ true → f ≡ front y.life.frames.zeroed → Made (move.Give f k) y z → TookFrame a 0 s z
+took_added a k f s x y z h dead r m c v q g = took_ready a IsFresh 0 s x z r (copy_still a k s h c v dead)
+    (λ t. piece_of a IsFresh false 0 1 0 t (move.Add k None ∷ move.Give f k ∷ []) x z (does_two (move.Add k None) (move.Give f k) x y z m g) ((c, ap (λ (p : Place → Option Frame). is_some (p a.place)) (readied_ready s x h r).valid ∙ v, (f, refl)), (inr c, tt)) refl refl (omega arith) (omega arith))
     (λ t. q ∙ ap (λ (l : FrameLife). front l.frames.zeroed) m.life)
 
 copy_life : (k : Key) (f : Frame) (s x y z : StateOf) → StateHolds s → Readies s x → Made (move.Add k None) x y → Made (move.Give f k) y z → KeyAdded k s.life z.life
@@ -219,14 +227,14 @@ copy_life k f s x y z h r m g =
     let a = subst (λ (l : FrameLife). KeyAdded k x.life l) (sym m.life) (record { machine = refl; line = refl; kind = refl; paging = refl; keys = refl; pids = refl; added = refl }) in
     added_behind k s.life x.life z.life (readied_ready s x h r).life (added_then k x.life y.life z.life a (kept_made (move.Give f k) y z g tt))
 
-pub copy_given : (place : Place) (f : Frame) (s x y z : StateOf) (beside : Option Place) → StateHolds s → StateHolds z → Readies s x → Made (move.Add (key_of_place place) None) x y → y ≡ record (moved x y) { contents = changed same_key x.contents (key_of_place place) (Some zero_page); aside = beside } → y.aside ≡ Some place
+pub copy_given : (place : Place) (f : Frame) (s x y z : StateOf) (beside : Option Place) → StateHolds s → StateHolds z → s.contents (key_of_place place) ≡ None → Readies s x → Made (move.Add (key_of_place place) None) x y → y ≡ record (moved x y) { contents = changed same_key x.contents (key_of_place place) (Some zero_page); aside = beside } → y.aside ≡ Some place
     → f ≡ front y.life.frames.zeroed → Made (move.Give f (key_of_place place)) y z → z ≡ record (moved y z) { names = names_after_give y.aside y.names (key_of_place place) } → is_read (record_at z.life.frames f.0).request ≡ false → CopyGiven place f s z
-copy_given place f s x y z beside h hz r m e aside first g w quiet =
+copy_given place f s x y z beside h hz dead r m e aside first g w quiet =
     let k = key_of_place place in
     let ready = readied_ready s x h r in
-    let gave = gives k f y y z (ready_now y) g w quiet (λ a o. went_give a f k y y z (Zeroed refl) first g o) in
+    let gave = gives k f y y z (ready_now y) g w quiet (λ a n free. went_given a f k y z g n free) in
     record {
-      took = λ a p c v. took_added a k f s x y z r m c (ap (λ (q : Place). is_some (x.life.valid q)) p ∙ ap (λ (h : Place → Option Frame). is_some (h place)) ready.valid ∙ v) first g;
+      took = λ a p c v. took_added a k f s x y z h dead r m c (ap (λ (q : Place). is_some (s.life.valid q)) p ∙ v) first g;
       life = copy_life k f s x y z h r m g;
       valid = gave.valid ∙ ap (λ (l : FrameLife). l.valid) m.life ∙ ready.valid;
       names = gave.beside place aside refl ∙ ap (λ (u : StateOf). u.names) e ∙ ap (λ (u : StateOf). u.names) ready.rest;
@@ -310,12 +318,22 @@ own_may_map place f y g i = λ e. let bad : false ≡ true = sym (own_test is_sh
 
 -- ---- the piece
 
-went_put : (a : Aim) (place : Place) (f : Frame) (s y z : StateOf) → a.place ≡ place → a.need.copy ≡ Some (key_of_place place) → shows_shared s.life place ≡ true → InQuietFrame (key_of_place place) f s → Made (move.Unmap place) s y → Made (move.Map f place) y z → Went a 0 s z
-went_put a place f s y z e c shows i u m =
-    let live = in_frame_live (key_of_place place) f s i in
-    let copied = ap (λ (o : Option Key). unwrap_or (option_map (λ k. is_live s.life k) o) false) c ∙ live in
+-- the copy of an access is there
+copied_by : (a : Aim) (k : Key) (f : Frame) (s : StateOf) → a.need.copy ≡ Some k → InQuietFrame k f s → is_copied a.need s.life ≡ true
+copied_by a k f s c i = ap (λ (o : Option Key). unwrap_or (option_map (λ k. is_live s.life k) o) false) c ∙ in_frame_live k f s i
+
+-- and is what becomes valid
+copy_shown : (a : Aim) (k : Key) (f : Frame) (s : StateOf) → StateHolds s → a.need.copy ≡ Some k → InQuietFrame k f s → (record_at s.life.frames f.0).owner ≡ Some (key_shown a.need s.life)
+copy_shown a k f s h c i =
+    h.owner k f i.stands ∙ ap (λ (o : Option Key). Some (unwrap_or o a.need.key)) (sym c)
+    ∙ ap (λ (b : Bool). Some (if b then key_written a.need else a.need.key)) (sym (copied_by a k f s c i))
+
+went_put : (a : Aim) (place : Place) (f : Frame) (s y z : StateOf) → StateHolds y → a.place ≡ place → a.need.copy ≡ Some (key_of_place place) → shows_shared s.life place ≡ true → InQuietFrame (key_of_place place) f s → InQuietFrame (key_of_place place) f y → Made (move.Unmap place) s y → Made (move.Map f place) y z → Went a 0 s z
+went_put a place f s y z h e c shows i j u m =
+    let copied = copied_by a (key_of_place place) f s c i in
+    let shown = subst (λ (l : FrameLife). (record_at l.frames f.0).owner ≡ Some (key_shown a.need l)) u.life (copy_shown a (key_of_place place) f y h c j) in
     piece_of a IsFresh false 0 0 0 [] (move.Unmap place ∷ move.Map f place ∷ []) s z (does_two (move.Unmap place) (move.Map f place) s y z u m)
-    (ByCopy (sym e) copied shows (f, ap (λ (x : Place). move.Map f x) (sym e)), (sym e, tt)) refl refl (omega arith) (omega arith)
+    (ByCopy (sym e) copied shows (f, ap (λ (x : Place). move.Map f x) (sym e)), ((sym e, shown), tt)) refl refl (omega arith) (omega arith)
 
 -- ---- what stays
 
@@ -340,7 +358,7 @@ copy_put place f s y z h shows i j a u r m e =
     let none : left_by y.aside place ≡ None = left_here y.aside place (ap (λ (x : StateOf). x.aside) r ∙ a) in
     let names = ap (λ (x : StateOf). x.names) e in
     record {
-      went = λ b p c. went_put b place f s y z p c shows i u m;
+      went = λ b p c. went_put b place f s y z h p c shows i j u m;
       life = kept_then s.life y.life z.life (kept_made (move.Unmap place) s y u tt) (kept_made (move.Map f place) y z m tt);
       valid = ap (λ (l : FrameLife). l.valid place) m.life ∙ ap (λ (b : Bool). if b then Some f else y.life.valid place) (same_place-self place);
       young = ap (λ (ages : Place → ℕ). ages place) m.ages ∙ ap (λ (b : Bool). if b then 0 else y.ages place) (same_place-self place);

@@ -9,12 +9,12 @@ use Rattle.mm_store.specs.{Aim, Copies, MayAccess, IsReady, copying, Passes, IsB
 use Rattle.mm_store.specs.{Ready, own_key}
 use Rattle.mm_world.specs.{Tally, Page, same_key as same_in_world, still_needs_frame, search_failed, is_short as report_is_short}
 use Rattle.mm_state_calls.specs.{StateOf, moved_with_call, IsFlightOf, StateHolds}
-use Rattle.mm_pager.specs.{Piece, IsFresh, HasTried, Went, LifeKept, Reaches, FailsToBring, FindsNone, CopiesPage, FailsToCopyPage, CopiesFrom}
-use Rattle.mm_pager.specs.{Readied, Pins, Copied, most_reads, Causes, OwnOf, StoreKept, store_of, report_of, behind_of}
+use Rattle.mm_pager.specs.{Piece, IsFresh, HasTried, Went, IsUncopied, LifeKept, Reaches, FailsToBring, FindsNone, CopiesPage, FailsToCopyPage, CopiesFrom}
+use Rattle.mm_pager.specs.{Readied, Pins, CopyMapped, most_reads, Causes, OwnOf, StoreKept, store_of, report_of, behind_of}
 use Rattle.mm_pager.proofs.AccessMoves.{piece_as, went_then, aim_at, called_on, kept_then, added_behind, piece_life, made_by, block_same, called_store, paging_has_none, dead_has_none}
 use Rattle.mm_pager.proofs.Taking.{changed_twice, fault_later, young_still}
 use Rattle.mm_pager.proofs.Copies.{reaches_begins}
-use Rattle.mm_pager.proofs.FaultSteps.{search_left, search_causes, stuck_pinned}
+use Rattle.mm_pager.proofs.FaultSteps.{MaySeek, search_left, search_causes, stuck_pinned}
 use Rattle.mm_types.specs.declared.frames.Held.TheVariants as held
 use Rattle.mm_move_laws.proofs.{key_or_not, changed_here, changed_else, same_key-self}
 use Rattle.mm_store.specs.Reports.{Ends}
@@ -29,12 +29,24 @@ pub few_reads : (o : Option Frame) → most_reads o ≤ 1
 few_reads None = omega arith
 few_reads (Some f) = omega arith
 
+same_copy : (s : StateOf) (k j : Key) → s.contents k ≡ None → Some k ≡ Some j → s.contents j ≡ None
+same_copy s k j dead e =
+    let same : k ≡ j = cc in
+    ap s.contents (sym same) ∙ dead
+
 module _ (k : Key) (f : Frame) (place : Place) (s t : StateOf) (r : Readied k f place s t) where
   begins_here : Reaches (aim_at false k place s) k place s
   begins_here = record { at = refl; needs = refl; from = refl }
 
+  none_copied : IsUncopied (aim_at false k place s) s
+  none_copied j e = cc
+
+  -- the copy has not come to be
+  copy_dead : s.contents (key_of_place place) ≡ None → (a : Aim) → CopiesFrom a k place s → IsUncopied a s
+  copy_dead dead a c j e = same_copy s (key_of_place place) j dead (sym c.copy ∙ e)
+
   pub readied_life : LifeKept s.life t.life
-  readied_life = piece_life (aim_at false k place s) IsFresh (most_reads (s.life.valid place)) 0 0 s t refl (r.went (aim_at false k place s) begins_here)
+  readied_life = piece_life (aim_at false k place s) IsFresh (most_reads (s.life.valid place)) 0 0 s t refl (r.went (aim_at false k place s) begins_here none_copied)
 
   pub still_dead : s.contents (key_of_place place) ≡ None → t.contents (key_of_place place) ≡ None
   still_dead dead = ap (λ (x : StateOf). x.contents (key_of_place place)) r.same ∙ dead
@@ -52,16 +64,17 @@ module _ (k : Key) (f : Frame) (place : Place) (s t : StateOf) (r : Readied k f 
   page_then : (E : Aim → Walk → Type 0) (q : ℕ) → most_reads (s.life.valid place) ≤ q → StateHolds t → s.contents (key_of_place place) ≡ None → (z : StateOf) → ((a : Aim) → Pins a place f t → Piece a (E a) false 0 0 0 [] t z) → (a : Aim) → CopiesFrom a k place s → Piece a (E a) false q 0 0 [] s z
   page_then E q few ht dead z h a c =
       let n = most_reads (s.life.valid place) in
-      piece_as a (E a) (n + 0) q 0 0 0 0 [] s z (omega (arith, few)) (omega arith) (went_then a (E a) n 0 s t z (r.went a c.reaches) (h a (pins_then ht dead a c)))
+      piece_as a (E a) (n + 0) q 0 0 0 0 [] s z (omega (arith, few)) (omega arith) (went_then a (E a) n 0 s t z (r.went a c.reaches (copy_dead dead a c)) (h a (pins_then ht dead a c)))
 
   named_own : (n : Place → Option Key) → (n ≡ s.names) ⊎ (n ≡ changed same_place s.names place (Some k)) → changed same_place n place (Some (key_of_place place)) ≡ changed same_place s.names place (Some (key_of_place place))
   named_own n (inl e) = ap (λ (x : Place → Option Key). changed same_place x place (Some (key_of_place place))) e
   named_own n (inr e) = ap (λ (x : Place → Option Key). changed same_place x place (Some (key_of_place place))) e ∙ changed_twice same_place s.names place (Some k) (Some (key_of_place place))
 
-  page_copied : (z : StateOf) → Copied k place t z → Copied k place s z
+  page_copied : (z : StateOf) → CopyMapped k place t z → CopyMapped k place s z
   page_copied z c = record {
     life = added_behind (key_of_place place) s.life t.life z.life readied_life c.life;
     valid = c.valid;
+    soiled = c.soiled;
     young = c.young;
     names = c.names ∙ named_own t.names r.names;
     contents = c.contents ∙ ap (λ (x : StateOf). changed same_key x.contents (key_of_place place) (x.contents k)) r.same;
@@ -78,13 +91,13 @@ module _ (k : Key) (f : Frame) (place : Place) (s t : StateOf) (r : Readied k f 
   page_unready h = short_before (s.life.valid place) refl h
 
   -- no frame was found for it
-  pub page_fails : (e : PageFault) (z : StateOf) → StateHolds t → s.contents (key_of_place place) ≡ None → FindsNone (Some f) e t z → FailsToCopyPage k place e s z
-  page_fails e z ht dead n =
+  pub page_fails : (e : PageFault) (z : StateOf) → MaySeek t → StateHolds t → s.contents (key_of_place place) ≡ None → FindsNone (Some f) e t z → FailsToCopyPage k place e s z
+  page_fails e z may ht dead n =
       let p = n.searched in
       let c = search_causes (Some f) k t z p in
-      let w = r.went (aim_at false k place s) begins_here in
+      let w = r.went (aim_at false k place s) begins_here none_copied in
       subst (λ (x : PageFault). FailsToCopyPage k place x s z) (sym n.why) (record {
-        stuck = page_then (λ a. HasTried a fault.NoFrame z) 1 (few_reads (s.life.valid place)) ht dead z (λ a b. stuck_pinned a place f t z b p);
+        stuck = page_then (λ a. HasTried a fault.NoFrame z) 1 (few_reads (s.life.valid place)) ht dead z (λ a b. stuck_pinned a place f t z may b p);
         unready = page_unready n.short;
         life = kept_then s.life t.life z.life readied_life (search_left (Some f) false t z p).life;
         names = subst (λ (m : Place → Option Key). (m ≡ s.names) ⊎ (m ≡ changed same_place s.names place (Some k))) (sym (ap (λ (x : StateOf). x.names) p.same)) r.names;
@@ -106,22 +119,22 @@ module _ (k : Key) (f : Frame) (place : Place) (s t : StateOf) (r : Readied k f 
 -- ---- by the result of the second half
 
 pub ok_copies : {T E : Type 0} (r : Result T E) (k : Key) (f : Frame) (place : Place) (s t : StateOf) → Readied k f place s t → StateHolds t → s.contents (key_of_place place) ≡ None → (z : StateOf)
-    → OnOk r ((a : Aim) → Pins a place f t → Went a 0 t z) → OnOk r (Copied k place t z) → OnOk r (CopiesPage k place s z)
+    → OnOk r ((a : Aim) → Pins a place f t → Went a 0 t z) → OnOk r (CopyMapped k place t z) → OnOk r (CopiesPage k place s z)
 ok_copies (Ok v) k f place s t rd h dead z w c = record { went = page_then k f place s t rd (λ a. IsFresh) (most_reads (s.life.valid place)) (omega arith) h dead z w; copied = page_copied k f place s t rd z c }
 ok_copies (Err e) k f place s t rd h dead z w c = tt
 
-pub err_copies : {T : Type 0} (r : Result T PageFault) (k : Key) (f : Frame) (place : Place) (s t : StateOf) → Readied k f place s t → StateHolds t → s.contents (key_of_place place) ≡ None → (z : StateOf)
+pub err_copies : {T : Type 0} (r : Result T PageFault) (k : Key) (f : Frame) (place : Place) (s t : StateOf) → Readied k f place s t → MaySeek t → StateHolds t → s.contents (key_of_place place) ≡ None → (z : StateOf)
     → IfErr r (λ e. FindsNone (Some f) e t z) → IfErr r (λ e. FailsToCopyPage k place e s z)
-err_copies (Ok v) k f place s t rd h dead z n = tt
-err_copies (Err e) k f place s t rd h dead z n = page_fails k f place s t rd e z h dead n
+err_copies (Ok v) k f place s t rd may h dead z n = tt
+err_copies (Err e) k f place s t rd may h dead z n = page_fails k f place s t rd e z may h dead n
 
 -- the page could not be brought
-pub fails_to_hold : (k : Key) (place : Place) (e : PageFault) (s z : StateOf) → s.life.valid place ≡ None → FailsToBring k e s z → FailsToCopyPage k place e s z
-fails_to_hold k place e s z free w =
+pub fails_to_hold : (k : Key) (place : Place) (e : PageFault) (s z : StateOf) → s.life.valid place ≡ None → s.contents (key_of_place place) ≡ None → FailsToBring k e s z → FailsToCopyPage k place e s z
+fails_to_hold k place e s z free dead w =
     record {
-      stuck = λ a c. w.stuck a (reaches_begins a k place s free c.reaches);
+      stuck = λ a c. w.stuck a (reaches_begins a k place s free c.reaches (λ j q. same_copy s (key_of_place place) j dead (sym c.copy ∙ q)));
       unready = inl free;
-      life = piece_life (aim_at false k place s) (HasTried (aim_at false k place s) e z) 1 0 0 s z refl (w.stuck (aim_at false k place s) (record { needs = refl; from = refl; at = free }));
+      life = piece_life (aim_at false k place s) (HasTried (aim_at false k place s) e z) 1 0 0 s z refl (w.stuck (aim_at false k place s) (record { needs = refl; from = refl; at = free; uncopied = λ j q. cc }));
       names = inl (ap (λ (x : StateOf). x.names) w.fails.same);
       causes = w.fails.causes;
       same = called_on s z w.fails.same;
@@ -159,7 +172,7 @@ touches_then place k s o (inl e) = ap is_touch e
 touches_then place k s o (inr e) = ap is_touch e.0
 
 -- the page copied to is ready
-pub copied_kept : (n : ℕ) (k : Key) (place : Place) (s z : StateOf) (o u : OwnOf) (now : Ready) → StoreKept s o → MayAccess (store_of s o) place (copying k place) → ((a : Aim) → CopiesFrom a k place s → Went a n s z) → Copied k place s z
+pub copied_kept : (n : ℕ) (k : Key) (place : Place) (s z : StateOf) (o u : OwnOf) (now : Ready) → StoreKept s o → MayAccess (store_of s o) place (copying k place) → ((a : Aim) → CopiesFrom a k place s → Went a n s z) → CopyMapped k place s z
     → u.ready ≡ Some now → now.place ≡ place → now.need.copy ≡ None → u.blocks_used ≡ o.blocks_used → StoreKept z u
 copied_kept n k place s z o u now h may went c ready at none used = record {
   own = ap (λ (x : StateOf). x.own) c.same ∙ h.own;
@@ -183,7 +196,7 @@ none_of : (o : Option Frame) (n : ℕ) → n ≤ most_reads o → is_some o ≡ 
 none_of None n h e = cc
 none_of (Some f) n h e = omega (arith, h)
 
-pub copy_passes : (k : Key) (place : Place) (s z : StateOf) (o u : OwnOf) → StoreKept s o → ((a : Aim) → CopiesFrom a k place s → Went a (most_reads (s.life.valid place)) s z) → Copied k place s z
+pub copy_passes : (k : Key) (place : Place) (s z : StateOf) (o u : OwnOf) → StoreKept s o → ((a : Aim) → CopiesFrom a k place s → Went a (most_reads (s.life.valid place)) s z) → CopyMapped k place s z
     → Passes (Copies {T = Unit {0}} (copy_aim k place s) (IsReady (store_of s o) place (copying k place)) (Ok tt)) (store_of s o) (store_of z u) (behind_of s) (behind_of z)
 copy_passes k place s z o u h went c =
     let w = went (copy_aim k place s) (aims k place s) in
@@ -192,7 +205,7 @@ copy_passes k place s z o u h went c =
         made = made_by (copy_aim k place s) IsFresh (most_reads (s.life.valid place)) s z w (few_reads (s.life.valid place));
         read = w.fails;
         waits = w.does.waits;
-        valid = c.valid;
+        served = record { valid = c.valid; soiled = λ w. c.soiled };
         ages = young_still z.ages place 0 c.young ∙ ap (λ (g : Place → ℕ). changed same_place g place 0) w.does.ages;
       };
       calm = λ r. none_of (s.life.valid place) _ w.few_reads (h.ready _ r);
@@ -203,13 +216,13 @@ pub failed_passes : (e : PageFault) (k : Key) (place : Place) (s z : StateOf) (o
 failed_passes e k place s z o u h p =
     let w = p.stuck (copy_aim k place s) (aims k place s) in
     passes_of _ w.moves s z o u w.does (record {
-      ends = record { made = made_by (copy_aim k place s) (HasTried (copy_aim k place s) e z) 1 s z w (omega arith); read = w.fails; waits = w.does.waits; ages = w.does.ages; starved = w.ends };
+      ends = record { made = made_by (copy_aim k place s) (HasTried (copy_aim k place s) e z) 1 s z w (omega arith); read = w.fails; waits = w.does.waits; ages = w.does.ages; short = λ e. (w.ends e).0; starved = λ e. (w.ends e).1 };
       calm = λ r. absurd (never_unready place k s o h r p.unready);
     })
 
 -- ---- the store after it
 
-block_copied : (k : Key) (place : Place) (s z : StateOf) (ms : List Move) → StateHolds s → StateHolds z → Replays ms s.life z.life → s.contents (key_of_place place) ≡ None → Copied k place s z → (q : Key)
+block_copied : (k : Key) (place : Place) (s z : StateOf) (ms : List Move) → StateHolds s → StateHolds z → Replays ms s.life z.life → s.contents (key_of_place place) ≡ None → CopyMapped k place s z → (q : Key)
     → block_at (backed_by z.life (z.life.stands q)) ≡ block_at (backed_by s.life (s.life.stands q))
 block_copied k place s z ms h g r dead c q = elim (key_or_not q (key_of_place place)) [
   | inl e ↦
@@ -228,7 +241,7 @@ with_copy s z place to = record (fetched s z) {
   paging_keys = s.paging_keys + 1;
 }
 
-pub copied_store : (n : ℕ) (k : Key) (place : Place) (to : Key) (s z : StateOf) (o u : OwnOf) → to ≡ own_key place → StateHolds s → StateHolds z → s.contents (key_of_place place) ≡ None → ((a : Aim) → CopiesFrom a k place s → Went a n s z) → Copied k place s z → u.extended ≡ o.extended → u.blocks_used ≡ o.blocks_used
+pub copied_store : (n : ℕ) (k : Key) (place : Place) (to : Key) (s z : StateOf) (o u : OwnOf) → to ≡ own_key place → StateHolds s → StateHolds z → s.contents (key_of_place place) ≡ None → ((a : Aim) → CopiesFrom a k place s → Went a n s z) → CopyMapped k place s z → u.extended ≡ o.extended → u.blocks_used ≡ o.blocks_used
     → store_of z u ≡ with_copy (store_of s o) (store_of z u) place to
 copied_store n k place to s z o u e h g dead went c x b =
     let w = went (copy_aim k place s) (aims k place s) in
@@ -275,14 +288,14 @@ either_some : (a b : Bool) → b ≡ false → (not a || not b) ≡ true
 either_some a b q = grind (arith, q)
 
 -- the place's own page lives then
-copied_live : (k : Key) (place : Place) (s z : StateOf) → StateHolds z → Copied k place s z → is_some (s.contents k) ≡ true → is_live z.life (key_of_place place) ≡ true
+copied_live : (k : Key) (place : Place) (s z : StateOf) → StateHolds z → CopyMapped k place s z → is_some (s.contents k) ≡ true → is_live z.life (key_of_place place) ≡ true
 copied_live k place s z g c some = g.live (key_of_place place) ∙ ap (λ (p : Key → Option Page). is_some (p (key_of_place place))) c.contents ∙ ap is_some (changed_here s.contents (key_of_place place) (s.contents k)) ∙ some
 
 -- a report tells of the store's own fields the extension alone
 abbrev told_by : Option Bool → OwnOf
 told_by x = record { extended = x; ready = None; blocks_used = 0 }
 
-pub copied_ends : (k : Key) (place : Place) (s z : StateOf) (o : OwnOf) (x : Option Bool) → StateHolds z → Copied k place s z → is_some (s.contents k) ≡ true → IsBegun (report_of s o) → Ends {T = Unit {0}} (copying k place) (report_of z (told_by x)) (Ok tt)
+pub copied_ends : (k : Key) (place : Place) (s z : StateOf) (o : OwnOf) (x : Option Bool) → StateHolds z → CopyMapped k place s z → is_some (s.contents k) ≡ true → IsBegun (report_of s o) → Ends {T = Unit {0}} (copying k place) (report_of z (told_by x)) (Ok tt)
 copied_ends k place s z o x g c some b =
     let still : still_needs_frame (copying k place) (report_of z (told_by x)) ≡ false =
     (λ i. not (framed_has z.life (z.life.stands k) c.framed i) || not (live_where z.life (z.life.stands (key_of_place place)) (copied_live k place s z g c some) i)) in

@@ -8,7 +8,7 @@ use Rattle.mm_move_rules.specs.{without_slot, same_key, counts_of, is_active, is
 use Rattle.mm_world.specs.{same_key as same_in_world, has_frame, still_needs_frame, read_failed, search_failed, is_short as report_is_short}
 use Rattle.mm_world.specs.{BeingRead, InFrame, filled, written}
 use Rattle.mm_world.specs.Report.{Report}
-use Rattle.mm_store.specs.{Touches, touch, IsReady, IsBegun, is_framed, where_of, framed_where, Passes, Aim, AccessMove, Served, fetched, StoreOf, is_read_fault, key_written}
+use Rattle.mm_store.specs.{Touches, touch, IsReady, IsBegun, is_framed, where_of, framed_where, Passes, Aim, AccessMove, IsSoiledFor, Served, fetched, StoreOf, is_read_fault, key_written}
 use Rattle.mm_store.specs.{eased, block_at, backed_by, in_backing}
 use Rattle.mm_store.specs.Reports.{Ends}
 use Rattle.mm_state_calls.specs.{StateOf, StateHolds, walk_of, moved, moved_with_call}
@@ -22,7 +22,8 @@ use Rattle.mm_pager.proofs.AccessMoves.{made_by, piece_anywhere, went_nothing, w
 use Rattle.std.proofs.lemmas.List.Sums.{sum_by-append}
 use Rattle.mm_types.specs.declared.frames.Backing.TheVariants as backing
 use Rattle.mm_ram.specs.{overwritten}
-use Rattle.mm_pager.proofs.Taking.{young_still}
+use Rattle.mm_pager.proofs.Taking.{soiled_for, young_still}
+use Rattle.mm_frame_laws.specs.{IsSoiled}
 use Rattle.mm_state_calls.proofs.{does_one}
 use Rattle.mm_move_rules.proofs.{soiled_part, soiled_shares, soiled_request}
 
@@ -68,10 +69,14 @@ search_failed_by f s still short a b c d = grind (arith, a, b, c, d)
 
 -- ---- an access of a page that is valid
 
-pub valid_passes : (w : Bool) (k : Key) (place : Place) (s z : StateOf) (o : OwnOf) (c : Key → Option (List ℕ)) → is_some (s.life.valid place) ≡ true → z ≡ record s { ages = changed same_place s.ages place 0; contents = c }
+-- a write leaves the page soiled
+abbrev pub IsSoiledAt : Bool → Key → Place → FrameLife → Type 0
+IsSoiledAt w k place l = w ≡ true → (f : Frame) → l.valid place ≡ Some f → IsSoiledFor k (record_at l.frames f.0)
+
+pub valid_passes : (w : Bool) (k : Key) (place : Place) (s z : StateOf) (o : OwnOf) (c : Key → Option (List ℕ)) → is_some (s.life.valid place) ≡ true → IsSoiledAt w k place s.life → z ≡ record s { ages = changed same_place s.ages place 0; contents = c }
     → Passes (Touches {T = Unit {0}} (record { place = place; need = touch k; writes = w; start = s.life }) (IsReady (store_of s o) place (touch k)) (Ok tt)) (store_of s o) (store_of z o) (behind_of s) (behind_of z)
-valid_passes w k place s z o c v e = none_passes _ s z o o c (changed same_place s.ages place 0) s.waits e (record {
-  ends = record { made = record { each = tt; one_read = omega arith; few_writes = omega arith }; read = refl; waits = refl; valid = v; ages = refl };
+valid_passes w k place s z o c v soiled e = none_passes _ s z o o c (changed same_place s.ages place 0) s.waits e (record {
+  ends = record { made = record { each = tt; one_read = omega arith; few_writes = omega arith }; read = refl; waits = refl; served = record { valid = v; soiled = soiled }; ages = refl };
   calm = λ r. tt;
 })
 
@@ -103,14 +108,14 @@ pub record Moves (failed w : Bool) (k : Key) (place : Place) (s y : StateOf) : T
   pub same : IsCalledOn s y
 
 pub of_went : (w : Bool) (k : Key) (place : Place) (s y : StateOf) → s.life.valid place ≡ None → ((a : Aim) → a.place ≡ place → a.writes ≡ w → AccessBegins a k s → Went a 1 s y) → IsCalledOn s y → Moves false w k place s y
-of_went w k place s y e h same = record { piece = piece_anywhere (aim_at w k place s) IsFresh 1 s y (h (aim_at w k place s) refl refl (record { needs = refl; from = refl; at = e })); same = same }
+of_went w k place s y e h same = record { piece = piece_anywhere (aim_at w k place s) IsFresh 1 s y (h (aim_at w k place s) refl refl (record { needs = refl; from = refl; at = e; uncopied = λ j q. cc })); same = same }
 
 -- the same of a page that is written, and is no copy
 pub of_wrote : (k : Key) (place : Place) (s y : StateOf) → s.life.valid place ≡ None → ((a : Aim) → a.place ≡ place → a.writes ≡ true → a.need.copy ≡ None → AccessBegins a k s → Went a 1 s y) → IsCalledOn s y → Moves false true k place s y
-of_wrote k place s y e h same = record { piece = piece_anywhere (aim_at true k place s) IsFresh 1 s y (h (aim_at true k place s) refl refl refl (record { needs = refl; from = refl; at = e })); same = same }
+of_wrote k place s y e h same = record { piece = piece_anywhere (aim_at true k place s) IsFresh 1 s y (h (aim_at true k place s) refl refl refl (record { needs = refl; from = refl; at = e; uncopied = λ j q. cc })); same = same }
 
 pub of_stuck : (w : Bool) (why : PageFault) (k : Key) (place : Place) (s y : StateOf) → s.life.valid place ≡ None → FailsToBring k why s y → Moves (is_read_fault why) w k place s y
-of_stuck w why k place s y e h = record { piece = piece_anywhere (aim_at w k place s) (HasTried (aim_at w k place s) why y) 1 s y (h.stuck (aim_at w k place s) (record { needs = refl; from = refl; at = e })); same = called_on s y h.fails.same }
+of_stuck w why k place s y e h = record { piece = piece_anywhere (aim_at w k place s) (HasTried (aim_at w k place s) why y) 1 s y (h.stuck (aim_at w k place s) (record { needs = refl; from = refl; at = e; uncopied = λ j q. cc })); same = called_on s y h.fails.same }
 
 pub piece_served : {b : Bool} (a : Aim) (E : Walk → Type 0) (n : ℕ) (s y : StateOf) (o u : OwnOf) → Piece a E b n 0 0 [] s y → Served (store_of s o) (store_of y u)
 piece_served a E n s y o u x = served_by x.moves s y o u (in_line a x.moves (walk_of s) x.each) x.does
@@ -157,17 +162,17 @@ abbrev IsOf : {T : Type 0} → Bool → Key → Place → StateOf → OwnOf → 
 IsOf w k place s o z u IsNow r = Passes (Touches (aim_at w k place s) IsNow r) (store_of s o) (store_of z u) (behind_of s) (behind_of z)
 
 pub went_passes : (w : Bool) (k : Key) (place : Place) (s y z : StateOf) (o u : OwnOf) (c : Key → Option (List ℕ)) (IsNow : Type 0) → s.life.valid place ≡ None → (IsNow → is_some (s.life.valid place) ≡ true)
-    → Moves false w k place s y → is_some (y.life.valid place) ≡ true → z ≡ record y { ages = changed same_place y.ages place 0; contents = c } → IsOf {T = Unit {0}} w k place s o z u IsNow (Ok tt)
-went_passes w k place s y z o u c IsNow none now m v e = passes_beside _ m.piece.moves s y z o u y.bound y.names c (changed same_place y.ages place 0) y.waits m.piece.does e (record {
-  ends = record { made = made_by (aim_at w k place s) Anywhere 1 s y m.piece (omega arith); read = m.piece.fails; waits = m.piece.does.waits; valid = v; ages = ap (λ (g : Place → ℕ). changed same_place g place 0) m.piece.does.ages };
+    → Moves false w k place s y → is_some (y.life.valid place) ≡ true → IsSoiledAt w k place y.life → z ≡ record y { ages = changed same_place y.ages place 0; contents = c } → IsOf {T = Unit {0}} w k place s o z u IsNow (Ok tt)
+went_passes w k place s y z o u c IsNow none now m v soiled e = passes_beside _ m.piece.moves s y z o u y.bound y.names c (changed same_place y.ages place 0) y.waits m.piece.does e (record {
+  ends = record { made = made_by (aim_at w k place s) Anywhere 1 s y m.piece (omega arith); read = m.piece.fails; waits = m.piece.does.waits; served = record { valid = v; soiled = soiled }; ages = ap (λ (g : Place → ℕ). changed same_place g place 0) m.piece.does.ages };
   calm = λ r. absurd (not_here (s.life.valid place) none (now r));
 })
 
 pub stuck_passes : (w : Bool) (why : PageFault) (k : Key) (place : Place) (s z : StateOf) (o u : OwnOf) (IsNow : Type 0) → s.life.valid place ≡ None → (IsNow → is_some (s.life.valid place) ≡ true) → FailsToBring k why s z → IsOf {T = Unit {0}} w k place s o z u IsNow (Err why)
 stuck_passes w why k place s z o u IsNow none now h =
-    let p = h.stuck (aim_at w k place s) (record { needs = refl; from = refl; at = none }) in
+    let p = h.stuck (aim_at w k place s) (record { needs = refl; from = refl; at = none; uncopied = λ j q. cc }) in
     passes_of _ p.moves s z o u p.does (record {
-      ends = record { made = made_by (aim_at w k place s) (HasTried (aim_at w k place s) why z) 1 s z p (omega arith); read = p.fails; waits = p.does.waits; ages = p.does.ages; starved = p.ends };
+      ends = record { made = made_by (aim_at w k place s) (HasTried (aim_at w k place s) why z) 1 s z p (omega arith); read = p.fails; waits = p.does.waits; ages = p.does.ages; short = λ e. (p.ends e).0; starved = λ e. (p.ends e).1 };
       calm = λ r. absurd (not_here (s.life.valid place) none (now r));
     })
 
@@ -185,6 +190,10 @@ faulted_ends k s y z o x a c r t f b = had_ends k z (record { extended = x; read
 -- the place names its page then
 pub named_then : (k : Key) (place : Place) (n m : Place → Option Key) → n ≡ changed same_place m place (Some k) → n place ≡ Some k
 named_then k place n m e = ap (λ (f : Place → Option Key). f place) e ∙ ap (λ (b : Bool). if b then Some k else m place) (same_place-self place)
+
+-- a page that was brought to be written is soiled
+pub brought_soiled : (k : Key) (place : Place) (s y : StateOf) → StateHolds y → y.names ≡ changed same_place s.names place (Some k) → ((f : Frame) → y.life.valid place ≡ Some f → IsSoiled (record_at y.life.frames f.0)) → IsSoiledAt true k place y.life
+brought_soiled k place s y h n soiled w f v = soiled_for k (record_at y.life.frames f.0) (h.named place f v ∙ named_then k place y.names s.names n) (soiled f v)
 
 -- ---- A write to a page that is valid: it is soiled, where it is not yet
 
@@ -276,18 +285,34 @@ wrote_eases f s y z o a c h u e =
     subst (λ (x : StateOf). Eases s o x) (sym e) (subst (λ (x : StateOf). Eases s o (record x { ages = a; contents = c })) (sym p.same)
     (by_life (λ (l : FrameLife). Eases s o (record s { life = l })) f s y p refl (soiled_eases s o f u)))
 
-pub wrote_passes : (k : Key) (f : Frame) (place : Place) (s y z : StateOf) (o : OwnOf) (c : Key → Option (List ℕ)) → s.life.valid place ≡ Some f → (record_at s.life.frames f.0).owner ≡ Some k → Soils f s y → z ≡ record y { ages = changed same_place y.ages place 0; contents = c }
+-- what holds of the frame of a place
+pub at_place : (P : Frame → Type 0) (o : Option Frame) (f g : Frame) → o ≡ Some f → o ≡ Some g → P f → P g
+at_place P o f g v w p =
+    let both : Some f ≡ Some g = sym v ∙ w in
+    let same : f ≡ g = cc in
+    subst P same p
+
+-- its frame has the page still
+soils_owner : (k : Key) (f : Frame) (s y : StateOf) → (record_at s.life.frames f.0).owner ≡ Some k → Soils f s y → (record_at y.life.frames f.0).owner ≡ Some k
+soils_owner k f s y has h = by_life (λ (l : FrameLife). (record_at l.frames f.0).owner ≡ Some k) f s y (soiled_all f s y h) has
+    (look_set (λ (r : Record). r.owner) s.life.frames.records f.0 f.0 (soiled (record_at s.life.frames f.0)) (soiled_part (λ (q : Record). q.owner) (record_at s.life.frames f.0) refl refl) ∙ has)
+
+pub wrote_passes : (k : Key) (f : Frame) (place : Place) (s y z : StateOf) (o : OwnOf) (c : Key → Option (List ℕ)) → s.life.valid place ≡ Some f → (record_at s.life.frames f.0).owner ≡ Some k → Soils f s y → IsSoiled (record_at y.life.frames f.0) → z ≡ record y { ages = changed same_place y.ages place 0; contents = c }
     → Passes (Touches {T = Unit {0}} (record { place = place; need = touch k; writes = true; start = s.life }) (IsReady (store_of s o) place (touch k)) (Ok tt)) (store_of s o) (store_of z o) (behind_of s) (behind_of z)
-wrote_passes k f place s y z o c v has (Was e) q =
-    valid_passes true k place s z o c (ap is_some v) (q ∙ ap (λ (x : StateOf). record x { ages = changed same_place x.ages place 0; contents = c }) e)
-wrote_passes k f place s y z o c v has (Is m e) q =
+wrote_passes k f place s y z o c v has (Was e) soiled q =
+    valid_passes true k place s z o c (ap is_some v) (λ w g u. at_place (λ (x : Frame). IsSoiledFor k (record_at s.life.frames x.0)) (s.life.valid place) f g v u (soiled_for k (record_at s.life.frames f.0) has (subst (λ (x : StateOf). IsSoiled (record_at x.life.frames f.0)) e soiled))) (q ∙ ap (λ (x : StateOf). record x { ages = changed same_place x.ages place 0; contents = c }) e)
+wrote_passes k f place s y z o c v has (Is m e) soiled q =
+    let there : y.life.valid place ≡ Some f = ap (λ (l : FrameLife). l.valid place) m.life ∙ v in
     let d = does_one (move.Soil f) s y m in
     passes_beside _ (move.Soil f ∷ []) s y z o o y.bound y.names c (changed same_place y.ages place 0) y.waits d q (record {
       ends = record {
         made = record { each = ((refl, v, has), tt); one_read = omega arith; few_writes = omega arith };
         read = refl;
         waits = d.waits;
-        valid = ap (λ (l : FrameLife). is_some (l.valid place)) m.life ∙ ap is_some v;
+        served = record {
+          valid = ap is_some there;
+          soiled = λ w g u. at_place (λ (x : Frame). IsSoiledFor k (record_at y.life.frames x.0)) (y.life.valid place) f g there u (soiled_for k (record_at y.life.frames f.0) (soils_owner k f s y has (Is m e)) soiled);
+        };
         ages = ap (λ (g : Place → ℕ). changed same_place g place 0) d.ages;
       };
       calm = λ r. (f, refl, refl, v, has);

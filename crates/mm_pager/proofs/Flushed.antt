@@ -18,9 +18,9 @@ use Rattle.mm_move_rules.specs.{is_dead, IsLegal, is_touch, is_access, is_writer
 use Rattle.mm_move_laws.specs.{ended_as}
 use Rattle.mm_move_laws.proofs.{reached_sound, wrote_settles}
 use Rattle.mm_store.specs.{IsEndOf, IsWrittenNow, IsWrittenIf, IsEndedFirst, FlushesBy, FlushedAt, ends_lost, FlushesPage as Flushes, Passes, wrote}
-use Rattle.mm_store.specs.{Served, fetched, stored_of, backed_by, block_at, in_backing, is_on_device, bytes_at, is_framed, with_write}
+use Rattle.mm_store.specs.{Served, fetched, stored_of, backed_by, block_at, in_backing, is_on_device, bytes_on_devices, is_framed, with_write}
 use Rattle.mm_store.specs.Told.{Told}
-use Rattle.mm_parts.specs.{write_end, write_target, goes_to, lowest_free, own_after, own_ended}
+use Rattle.mm_parts.specs.{write_end, write_target, goes_to, lowest_free_slot, own_after, own_ended}
 use Rattle.mm_state_calls.specs.{StateOf, CalledFor, Made, WrotePage, backing_of_frame, moved, moved_with_call, written_if, DoesMoves, StateHolds}
 use Rattle.mm_state_calls.proofs.{does_one, does_two, does_then, does_nothing}
 use Rattle.mm_frame_laws.specs.{blocks_written, slots_written}
@@ -215,7 +215,7 @@ pub changed_none : (b : Block) (f : Frame) (s : StateOf) → backing_of_frame s 
 changed_none b f s e c = record { moves = []; are = subst (λ (x : Bool). WrittenIf x true f []) (sym c) (refl, refl); writes = writes_none b s; backed = e; clean = λ q. c }
 
 pub target_is : (l : FrameLife) (f : Frame) (b : Block) → (record_at l.frames f.0).backing ≡ backing.Block b → write_target l f ≡ stored.Block b
-target_is l f b e = ap (λ (h : Backing). goes_to h (lowest_free l.free_slots)) e
+target_is l f b e = ap (λ (h : Backing). goes_to h (lowest_free_slot l.free_slots)) e
 
 -- a changed page that is not being written has no request at all
 no_request : (q : Request) → is_write q ≡ false → (is_read q ≡ true → ⊥) → has_request q ≡ false
@@ -417,7 +417,7 @@ on_err_if (Err e) f = f refl
 pub flushed_bytes : (k : Key) (b : Block) (ok : Bool) (s z : StateOf) → StateHolds z → FlushedOnePage k b ok s z → ok ≡ true → slice_get z.blocks b.0 ≡ s.contents k
 flushed_bytes k b ok s z g p e =
     let at = p.clean e in
-    sym (ap (bytes_at z.slots z.blocks) at) ∙ sym (g.stored k (ap is_on_device at)) ∙ ap (λ (x : StateOf). x.contents k) p.writes.same
+    sym (ap (bytes_on_devices z.slots z.blocks) at) ∙ sym (g.stored k (ap is_on_device at)) ∙ ap (λ (x : StateOf). x.contents k) p.writes.same
 
 end_in_line : (f : Frame) (m : Move) → IsEndOf f m → InLine (m ∷ [])
 end_in_line f m (inl e) = subst (λ (x : Move). InLine (x ∷ [])) (sym e) tt

@@ -11,12 +11,13 @@ use Rattle.mm_types.specs.declared.moves.LineKind.TheVariants as kind
 use Rattle.mm_types.specs.declared.moves.Move.TheVariants as move
 use Rattle.mm_types.specs.declared.numbers.Key.TheVariants.{Private, Shared}
 use Rattle.mm_types.proofs.{not_true, none_of, some_found}
-use Rattle.mm_working_sets.specs.{IsNextFrom, IsLowestFrom}
+use Rattle.mm_bits.specs.{IsLowestFrom}
+use Rattle.mm_working_sets.specs.{IsNextFrom}
 use Rattle.mm_move_rules.specs.{record_at, FrameLife, changed, same_key, same_place, set_of, key_of_place, is_shared, is_live, IsLegal, may_unmap, unbinds}
 use Rattle.mm_move_rules.specs.{trims, touches, is_above_min, is_at_max, is_access, is_short, is_call, is_unbind, is_unmapped, owner_is, fits_place}
 use Rattle.mm_move_rules.specs.{after_unmap_at, dropped_at, wait_of}
 use Rattle.mm_move_laws.specs.Sound.{Sound}
-use Rattle.mm_move_laws.specs.{is_frame}
+use Rattle.mm_move_rules.specs.{is_frame}
 use Rattle.mm_move_laws.proofs.{reached_sound, changed_here, changed_else, key_or_not, same_place-self, same_place-true, tally-none}
 use Rattle.mm_move_laws.proofs.{paging_lives as paging_live}
 use Rattle.mm_world.specs.{same_key as same_in_world}

@@ -18,11 +18,11 @@ pub use Shows.{line_whole, none_passes, notes_by, one_passes, process_set, stand
 pub use Shows.{turns_either, turns_still}
 pub use Taking.{access_touches, called_by_read, clear_legal, freed_ready, give_legal, in_frame_then}
 pub use Taking.{map_legal, may_map, placed_after, placed_by, read_legal, readied_ready, some_page}
-pub use Taking.{went_give, went_map, went_unmap_map}
+pub use Taking.{soiled_for, stored_unframed, touches_touch, went_give, went_map, went_unmap_map}
 pub use FaultSteps.{brings_given, brings_here, brings_read, brings_settled, fails_to_find, faulted}
 pub use FaultSteps.{found_access, found_stands, gives, reading_fails, search_left, settling_fails}
-pub use FaultSteps.{stored_unframed, zero_unframed}
-pub use Ending.{brought_written, err_store, faulted_ends, faulted_kept, kept_in, named_here}
+pub use FaultSteps.{MaySeek, zero_unframed}
+pub use Ending.{brought_soiled, brought_written, err_store, faulted_ends, faulted_kept, kept_in, named_here}
 pub use Ending.{named_then, not_here, of_stuck, of_went, of_wrote, ok_served, ok_store, piece_served}
 pub use Ending.{read_named, served_in, soils_names, some_is, stuck_passes, valid_ends, valid_passes}
 pub use Ending.{went_passes, went_soil, written_in, wrote_eases, wrote_ends, wrote_named}

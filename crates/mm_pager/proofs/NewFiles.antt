@@ -11,7 +11,7 @@ use Rattle.mm_types.specs.declared.frames.Backing.TheVariants as backing
 use Rattle.mm_types.specs.declared.moves.Move.TheVariants as move
 use Rattle.mm_types.specs.declared.numbers.Key.TheVariants.{Private, Shared}
 use Rattle.mm_types.proofs.{append_nil, same_or_not, get_set_same, get_set_other, none_below}
-use Rattle.mm_devices.specs.{DeviceCall, DeviceOf, Call, AllServed, logged_call, KeepsOthers, is_named}
+use Rattle.mm_devices.specs.{DeviceCall, DeviceOf, Call, AllServed, logged_call, KeepsOthers, is_next_named}
 use Rattle.mm_devices.proofs.{all_served_then, all_served_one, map-logged, later_same, later_then, serves_later, serves_failed, failed_later}
 use Rattle.mm_devices.proofs.{keeps_same, keeps_then, keeps_written}
 use Rattle.mm_move_rules.specs.{FrameLife, changed, same_key}
@@ -61,7 +61,7 @@ blocks_none first byte s = record {
 
 -- the call of the device that writes a block
 abbrev call_for : StateOf → ℕ → Bool → Call
-call_for y b ok = record { way = way.Write; block = b; succeeded = ok; named = is_named way.Write y.files.named }
+call_for y b ok = record { way = way.Write; block = b; succeeded = ok; named = is_next_named way.Write y.files.named }
 
 -- what the write of one block does
 pub record OneWritten (b byte : ℕ) (ok : Bool) (y z : StateOf) : Type 0 where

@@ -13,7 +13,8 @@ use Rattle.mm_move_rules.specs.{set_in, set_of, with_resident, IsLegal, after_un
 use Rattle.mm_move_rules.specs.{is_touch, is_io, is_access, is_call, Walk, Through, walked, waits_through}
 use Rattle.mm_world.specs.{same_key as same_in_world, filled, Tally}
 use Rattle.mm_store.specs.Behind.{Behind}
-use Rattle.mm_store.specs.{IsLineKind, pid_after, OneMove, Turns, MakesFrom, key_number, Passes, begun, rearranged, block_at, backed_by, changed}
+use Rattle.mm_store.specs.{IsLineKind, pid_after, OneMove, Turns, MakesFrom, key_number, Passes, begun, rearranged, block_at, backed_by}
+use Rattle.mm_move_rules.specs.{changed}
 use Rattle.mm_store.specs.{none_told, Forgets, Turn, NoMove, Grows, GrowsAs, PassesIn, Notes, Aim, AccessMove, no_calls, told_after, told_through}
 use Rattle.mm_store.specs.{in_slot, in_block, call_of, calls_of, Ready}
 use Rattle.mm_state_calls.specs.{StateOf, Made, moved, DoesMoves, GrowBegins, asked_to_grow, StateHolds, moved_with_call, walk_of}

@@ -1,9 +1,9 @@
 -- A frame is taken and made ready, given to a key or read into, and its page becomes valid.
 use Rattle.std.proofs.Common.{◌≡◌, ℕ, Bool, true, false, List, [], ◌∷◌, ◌++◌, Option, Some, None, refl, sym, ap, ◌∙◌, subst, arith, inl, inr, ◌≤◌}
 use Rattle.mm_types.proofs.{parts, not_false}
-use Rattle.std.specs.Prelude.{◌&&◌, ◌||◌, if◌then◌else◌, is_none, is_some, option_map, unwrap_or}
+use Rattle.std.specs.Prelude.{◌&&◌, ◌||◌, not, if◌then◌else◌, is_none, is_some, option_map, unwrap_or}
 use Rattle.std.specs.Cmp.{unsigned_Decides}
-use Rattle.mm_types.specs.{Backing, Held, LineKind, Frame, Key, Move, Record, Place, Pid}
+use Rattle.mm_types.specs.{Backing, Held, LineKind, Frame, Key, Move, Record, Request, Place, Pid}
 use Rattle.mm_types.specs.declared.moves.LineKind.TheVariants as kind
 use Rattle.mm_types.specs.declared.frames.Backing.TheVariants as backing
 use Rattle.mm_types.specs.declared.devices.Direction.TheVariants as way
@@ -11,16 +11,18 @@ use Rattle.mm_types.specs.declared.faults.PageFault.TheVariants as fault
 use Rattle.mm_types.specs.declared.frames.Held.TheVariants as held
 use Rattle.mm_types.specs.declared.moves.Move.TheVariants as move
 use Rattle.mm_move_rules.specs.{FrameLife, changed, same_key, is_empty, is_first, is_read, record_at, IsLegal, is_touch, is_access, is_zero, is_stored}
-use Rattle.mm_move_rules.specs.{after_move, homed, Walk, is_thread, has_depth, touches, given, same_place, key_of_place, ResidentSet, is_shared, is_dead}
+use Rattle.mm_move_rules.specs.{after_move, homed, Walk, is_thread, has_depth, touches, given, same_place, key_of_place, ResidentSet, is_shared, is_dead, is_live, is_write, is_again}
 use Rattle.mm_move_rules.specs.{set_of, fits_place, is_below_max, is_at_max, owner_is, after_unmap_at, IsOldest}
 use Rattle.mm_move_laws.proofs.{changed_else, changed_here, same_place-true, same_place-self, reached_sound}
 use Rattle.mm_devices.proofs.{all_served_later, failed_later}
-use Rattle.mm_store.specs.{Aim, IsGivenNext, IsUsedNext, is_had, with_read, FromFull}
+use Rattle.mm_store.specs.{Aim, IsGivenNext, IsUsedNext, is_had, with_read, FromFull, is_framed, wants_frame, is_copied, key_shown, key_written, IsSoiledFor}
+use Rattle.mm_world.specs.{Need}
+use Rattle.mm_types.specs.declared.frames.Request.TheVariants as request
 use Rattle.mm_store.specs.Told.{Told}
 use Rattle.mm_state_calls.specs.{StateOf, Made, DoesMoves, SomeFault, moved_with_call, moved, StateHolds}
 use Rattle.mm_state_calls.proofs.{does_one, does_two}
 use Rattle.mm_parts.specs.{own_after, own_ended, front, front_for_read, is_own_line, names_given, HasSet, left_by, MayMap, names_after_give, names_after_map}
-use Rattle.mm_pager.specs.{Calm, TakesFrame, TookFrame, HasTried, IsFresh, IsFor, ReadsFor, Fails, Frees, Free, Stolen, Readies, Zeroed, Cleared}
+use Rattle.mm_pager.specs.{Calm, TakesFrame, TookFrame, HasTried, IsFresh, IsUncopied, Piece, PutsFor, ReadsFor, Fails, FreeNow, Free, Stolen, Readies, Zeroed, Cleared}
 use Rattle.mm_pager.specs.{LifeKept, NamesFor, Went, InQuietFrame, Placed}
 use Rattle.mm_pager.proofs.AccessMoves.{piece_of, move_front, kept_made, kept_same, kept_then, set_there, went_one, moved_on}
 use Rattle.mm_reclaim.proofs.{fault_by, moved_then}
@@ -59,7 +61,7 @@ stolen_stays test s y f k h out e t = ap (λ (x : FrameLife). test (x.stands k))
     at None q = t
     at (Some o) q = stays_at test s.life.stands o k _ (λ same. let bad : true ≡ false = sym t ∙ ap (λ (j : Key). test (s.life.stands j)) (sym same) ∙ ap test (h.of_frame o f q) ∙ out in cc) t
 
-pub freed_ready : (s y : StateOf) → StateHolds s → Frees s y → Ready s y
+pub freed_ready : (s y : StateOf) → StateHolds s → FreeNow s y → Ready s y
 freed_ready s y h (Free e) = subst (λ (x : StateOf). Ready s x) (sym e) (ready_now s)
 freed_ready s y h (Stolen z f m e) = record {
   rest = e;
@@ -90,7 +92,7 @@ nothing_in [] e = refl
 nothing_in (x ∷ xs) e = cc
 
 -- no frame is zeroed, still
-none_zeroed : (s y : StateOf) → Frees s y → is_empty s.life.frames.zeroed ≡ true → is_empty y.life.frames.zeroed ≡ true
+none_zeroed : (s y : StateOf) → FreeNow s y → is_empty s.life.frames.zeroed ≡ true → is_empty y.life.frames.zeroed ≡ true
 none_zeroed s y (Free e) none = ap (λ (x : StateOf). is_empty x.life.frames.zeroed) e ∙ none
 none_zeroed s y (Stolen z f m e) none = ap (λ (l : FrameLife). is_empty l.frames.zeroed) m.life ∙ none
 
@@ -98,27 +100,57 @@ none_zeroed s y (Stolen z f m e) none = ap (λ (l : FrameLife). is_empty l.frame
 stolen_alone : (s y : StateOf) (f : Frame) → is_empty s.life.frames.free ≡ true → Made (move.Steal f) s y → y.life.frames.free ≡ f.0 ∷ []
 stolen_alone s y f none m = ap (λ (l : FrameLife). l.frames.free) m.life ∙ ap (λ (xs : List ℕ). xs ++ f.0 ∷ []) (nothing_in s.life.frames.free none)
 
-pub took_freed : {b : Bool} (a : Aim) (E : Walk → Type 0) (n : ℕ) (s y z : StateOf) → Frees s y → (q : TakesFrame a E b n y z) → ((f : Frame) → y.life.frames.free ≡ f.0 ∷ [] → (t : List ℕ) → IsUsedNext f (q t).moves) → TakesFrame a E b n s z
-unfolding move_front
-took_freed {b = b} a E n s y z (Free e) q h = subst (λ (x : StateOf). TakesFrame a E b n x z) e q
-took_freed a E n s y z (Stolen no_zeroed none m e) q h =
-    let f = front s.life.frames.standby in
-    move_front a E (move.Steal f) n s y z m (λ t. refl) refl refl refl q (h f (stolen_alone s y f none m))
+-- ---- a frame is wanted
 
-pub took_ready : {b : Bool} (a : Aim) (E : Walk → Type 0) (n : ℕ) (s y z : StateOf) → Readies s y → (q : TakesFrame a E b n y z) → ((t : List ℕ) → IsGivenNext (front y.life.frames.zeroed) (q t).moves) → TakesFrame a E b n s z
+pub wants_unframed : (a : Aim) (k : Key) (l : FrameLife) → a.need.key ≡ k → l.valid a.place ≡ None → not (is_framed (l.stands k)) ≡ true → wants_frame a.need a.place l ≡ true
+wants_unframed a k l n e u = ap (λ (o : Option Frame). if is_some o then unwrap_or (option_map (λ (j : Key). not (is_live l j)) a.need.copy) false else not (is_framed (l.stands a.need.key))) e ∙ ap (λ (j : Key). not (is_framed (l.stands j))) n ∙ u
+
+pub wants_copy : (n : Need) (place : Place) (k : Key) (l : FrameLife) → is_some (l.valid place) ≡ true → n.copy ≡ Some k → is_live l k ≡ false → wants_frame n place l ≡ true
+wants_copy n place k l v c d = ap (λ (b : Bool). if b then unwrap_or (option_map (λ (j : Key). not (is_live l j)) n.copy) false else not (is_framed (l.stands n.key))) v ∙ ap (λ (o : Option Key). unwrap_or (option_map (λ (j : Key). not (is_live l j)) o) false) c ∙ ap not d
+
+pub took_freed : {b : Bool} (a : Aim) (E : Walk → Type 0) (n : ℕ) (s y z : StateOf) → FreeNow s y → wants_frame a.need a.place s.life ≡ true → (q : TakesFrame a E b n y z) → ((f : Frame) → y.life.frames.free ≡ f.0 ∷ [] → (t : List ℕ) → IsUsedNext f (q t).moves) → TakesFrame a E b n s z
 unfolding move_front
-took_ready {b = b} a E n s y z (Zeroed e) q h = subst (λ (x : StateOf). TakesFrame a E b n x z) e q
-took_ready a E n s y z (Cleared x none f m e) q h =
+took_freed {b = b} a E n s y z (Free e) w q h = subst (λ (x : StateOf). TakesFrame a E b n x z) e q
+took_freed a E n s y z (Stolen no_zeroed none m e) w q h =
+    let f = front s.life.frames.standby in
+    move_front a E (move.Steal f) n s y z m (λ t. refl) refl refl refl q (λ t. (w, h f (stolen_alone s y f none m) t))
+
+pub took_ready : {b : Bool} (a : Aim) (E : Walk → Type 0) (n : ℕ) (s y z : StateOf) → Readies s y → ((x : StateOf) → FreeNow s x → wants_frame a.need a.place x.life ≡ true) → (q : TakesFrame a E b n y z) → ((t : List ℕ) → IsGivenNext (front y.life.frames.zeroed) (q t).moves) → TakesFrame a E b n s z
+unfolding move_front
+took_ready {b = b} a E n s y z (Zeroed e) w q h = subst (λ (x : StateOf). TakesFrame a E b n x z) e q
+took_ready a E n s y z (Cleared x none f m e) w q h =
     let g = front x.life.frames.free in
     let empty : x.life.frames.zeroed ≡ [] = nothing_in x.life.frames.zeroed (none_zeroed s x f none) in
     let last : front y.life.frames.zeroed ≡ g = ap (λ (l : FrameLife). front l.frames.zeroed) m.life ∙ ap (λ (xs : List ℕ). front (xs ++ g.0 ∷ [])) empty in
-    let given = λ (t : List ℕ). subst (λ (w : Frame). IsGivenNext w (q t).moves) last (h t) in
-    took_freed a E n s x z f (move_front a E (move.Clear g) n x y z m (λ t. refl) refl refl refl q given) (λ w only t. ap front only)
+    took_freed a E n s x z f (w s (Free refl)) (move_front a E (move.Clear g) n x y z m (λ t. refl) refl refl refl q (λ t. (w x f, subst (λ (v : Frame). IsGivenNext v (q t).moves) last (h t)))) (λ v only t. ap front only)
 
 -- ---- a page is given a frame
 
-pub went_give : (a : Aim) (f : Frame) (k : Key) (s y z : StateOf) → Readies s y → f ≡ front y.life.frames.zeroed → Made (move.Give f k) y z → IsFor a k → TookFrame a 0 s z
-went_give a f k s y z r e m h = took_ready a IsFresh 0 s y z r (λ t. piece_of a IsFresh false 0 1 0 t (move.Give f k ∷ []) y z (does_one (move.Give f k) y z m) (h, tt) refl refl (omega arith) (omega arith)) (λ t. e)
+-- a key without bytes is dead
+pub dead_of : (k : Key) (s : StateOf) → StateHolds s → s.contents k ≡ None → is_dead (s.life.stands k) ≡ true
+dead_of k s h e = not_false (is_dead (s.life.stands k)) (h.live k ∙ ap is_some e)
+
+-- a page without a frame wants one, also once another's was stolen
+wants_still : (a : Aim) (k : Key) (s : StateOf) → StateHolds s → a.need.key ≡ k → s.life.valid a.place ≡ None → is_framed (s.life.stands k) ≡ false → (x : StateOf) → FreeNow s x → wants_frame a.need a.place x.life ≡ true
+wants_still a k s h n free u x f =
+    let r = freed_ready s x h f in
+    wants_unframed a k x.life n (ap (λ (v : Place → Option Frame). v a.place) r.valid ∙ free) (r.stands (λ d. not (is_framed d)) k (λ g. refl) (ap not u))
+
+-- and so does a copy that has not come to be
+pub copy_still : (a : Aim) (k : Key) (s : StateOf) → StateHolds s → a.need.copy ≡ Some k → is_some (s.life.valid a.place) ≡ true → s.contents k ≡ None → (x : StateOf) → FreeNow s x → wants_frame a.need a.place x.life ≡ true
+copy_still a k s h c v e x f =
+    let r = freed_ready s x h f in
+    wants_copy a.need a.place k x.life (ap (λ (g : Place → Option Frame). is_some (g a.place)) r.valid ∙ v) c (ap not (r.stands is_dead k (λ g. refl) (dead_of k s h e)))
+
+abbrev took_give : (a : Aim) (f : Frame) (k : Key) (y z : StateOf) → Made (move.Give f k) y z → k ≡ a.need.key → y.life.valid a.place ≡ None → (t : List ℕ) → Piece a IsFresh false 0 1 0 t y z
+took_give a f k y z m n free t = piece_of a IsFresh false 0 1 0 t (move.Give f k ∷ []) y z (does_one (move.Give f k) y z m) (inl (n, free), tt) refl refl (omega arith) (omega arith)
+
+pub went_give : (a : Aim) (f : Frame) (k : Key) (s y z : StateOf) → StateHolds s → Readies s y → f ≡ front y.life.frames.zeroed → Made (move.Give f k) y z → is_framed (s.life.stands k) ≡ false → a.need.key ≡ k → s.life.valid a.place ≡ None → TookFrame a 0 s z
+went_give a f k s y z h r e m u n free = took_ready a IsFresh 0 s y z r (wants_still a k s h n free u) (took_give a f k y z m (sym n) (ap (λ (v : Place → Option Frame). v a.place) (readied_ready s y h r).valid ∙ free)) (λ t. e)
+
+-- a frame that is zeroed already
+pub went_given : (a : Aim) (f : Frame) (k : Key) (y z : StateOf) → Made (move.Give f k) y z → a.need.key ≡ k → y.life.valid a.place ≡ None → TookFrame a 0 y z
+went_given a f k y z m n free = took_give a f k y z m (sym n) free
 
 pub first_there : (xs : List ℕ) → is_empty xs ≡ false → is_first (front xs).0 xs ≡ true
 first_there [] e = cc
@@ -132,7 +164,7 @@ give_legal k s y h r t z some =
     let touch : is_touch y.life.kind ≡ true = ap is_touch ready.life.kind ∙ t in
     grind (arith, zero, first, touch)
 
-pub clear_legal : (s y : StateOf) → StateHolds s → Frees s y → is_touch s.life.kind ≡ true → is_empty s.life.frames.zeroed ≡ true → (is_empty y.life.frames.zeroed ≡ true → is_empty y.life.frames.free ≡ false) → IsLegal (move.Clear (front y.life.frames.free)) y.life
+pub clear_legal : (s y : StateOf) → StateHolds s → FreeNow s y → is_touch s.life.kind ≡ true → is_empty s.life.frames.zeroed ≡ true → (is_empty y.life.frames.zeroed ≡ true → is_empty y.life.frames.free ≡ false) → IsLegal (move.Clear (front y.life.frames.free)) y.life
 clear_legal s y h f t none some =
     let empty : is_empty y.life.frames.zeroed ≡ true = none_zeroed s y f none in
     let first = first_there y.life.frames.free (some empty) in
@@ -171,21 +203,27 @@ got_there f k j s y h m q = ap (λ (x : FrameLife). (record_at x.frames f.0).own
 only_read : (l : FrameLife) (f : Frame) → l.frames.free ≡ f.0 ∷ [] → front_for_read l ≡ f
 only_read l f e = ap (λ (xs : List ℕ). front_for_read (record l { frames = record l.frames { free = xs } })) e
 
-module _ (a : Aim) (f : Frame) (k : Key) (s y m z : StateOf) (frees : Frees s y) (first : f ≡ front_for_read y.life) (holds : StateHolds m) (begins : Made (move.Read f k) y m) (h : ReadsFor a k) where
+module _ (a : Aim) (f : Frame) (k : Key) (s y m z : StateOf) (frees : FreeNow s y) (first : f ≡ front_for_read y.life) (holds : StateHolds m) (begins : Made (move.Read f k) y m) (hs : StateHolds s) (h : ReadsFor a k s) where
+  still_free : y.life.valid a.place ≡ None
+  still_free = ap (λ (v : Place → Option Frame). v a.place) (freed_ready s y hs frees).valid ∙ h.free
+
+  wanted : wants_frame a.need a.place s.life ≡ true
+  wanted = wants_unframed a k s.life h.needs h.free (ap not h.unframed)
+
   pub went_read : Made (move.Got f) m z → TookFrame a 1 s z
-  went_read ends = took_freed a IsFresh 1 s y z frees
+  went_read ends = took_freed a IsFresh 1 s y z frees wanted
       (λ t. piece_of a IsFresh false 1 1 0 t (move.Read f k ∷ move.Got f ∷ []) y z (does_two (move.Read f k) (move.Got f) y m z begins ends)
-      ((sym h.needs, h.absent, λ e. inl refl), (got_there f k a.need.key y m holds begins h.needs, tt)) refl refl (omega arith) (omega arith)) (λ g only t. first ∙ only_read y.life g only)
+      ((sym h.needs, still_free, h.absent, λ e. inl refl), ((got_there f k a.need.key y m holds begins h.needs, still_free), tt)) refl refl (omega arith) (omega arith)) (λ g only t. first ∙ only_read y.life g only)
 
   pub stuck_read : Made (move.Bad f) m z → TakesFrame a (HasTried a fault.Read z) true 1 s z
-  stuck_read ends = took_freed a (HasTried a fault.Read z) 1 s y z frees
+  stuck_read ends = took_freed a (HasTried a fault.Read z) 1 s y z frees wanted
       (λ t. piece_of a (HasTried a fault.Read z) true 1 1 0 t (move.Read f k ∷ move.Bad f ∷ []) y z (does_two (move.Read f k) (move.Bad f) y m z begins ends)
-      ((sym h.needs, h.absent, λ e. inr refl), (got_there f k a.need.key y m holds begins h.needs, tt)) (λ e. cc) (refl, refl) (omega arith) (omega arith)) (λ g only t. first ∙ only_read y.life g only)
+      ((sym h.needs, still_free, h.absent, λ e. inr refl), ((got_there f k a.need.key y m holds begins h.needs, still_free), tt)) (λ e. cc) (refl, refl) (omega arith) (omega arith)) (λ g only t. first ∙ only_read y.life g only)
 
   -- it stays in flight where its line is no access
   pub took_read : (is_access y.life.kind ≡ true → ⊥) → TookFrame a 1 s m
-  took_read never = took_freed a IsFresh 1 s y m frees
-      (λ t. piece_of a IsFresh false 1 1 0 t (move.Read f k ∷ []) y m (does_one (move.Read f k) y m begins) ((sym h.needs, h.absent, λ e. absurd (never e)), tt) refl refl (omega arith) (omega arith))
+  took_read never = took_freed a IsFresh 1 s y m frees wanted
+      (λ t. piece_of a IsFresh false 1 1 0 t (move.Read f k ∷ []) y m (does_one (move.Read f k) y m begins) ((sym h.needs, still_free, h.absent, λ e. absurd (never e)), tt) refl refl (omega arith) (omega arith))
       (λ g only t. first ∙ only_read y.life g only)
 
 -- ---- the line's own request has ended
@@ -242,8 +280,18 @@ absent l (held.Slot t) e = refl
 absent l (held.Block b) e = refl
 absent l h e = cc
 
-pub reads_for : (a : Aim) (k : Key) (s : StateOf) → a.need.key ≡ k → a.start ≡ s.life → is_stored (s.life.stands k) ≡ true → ReadsFor a k
-reads_for a k s n e h = record { needs = n; absent = absent a.start (a.start.stands k) (ap (λ (l : FrameLife). is_stored (l.stands k)) e ∙ h) }
+-- a page on a device is in no frame
+pub stored_unframed : (h : Held) → is_stored h ≡ true → is_framed h ≡ false
+stored_unframed (held.Frame f) e = cc
+stored_unframed h e = refl
+
+pub reads_for : (a : Aim) (k : Key) (s t : StateOf) → a.need.key ≡ k → a.start ≡ s.life → is_stored (s.life.stands k) ≡ true → t.life.valid a.place ≡ None → t.life.stands ≡ s.life.stands → ReadsFor a k t
+reads_for a k s t n e h free same = record {
+  needs = n;
+  absent = absent a.start (a.start.stands k) (ap (λ (l : FrameLife). is_stored (l.stands k)) e ∙ h);
+  free = free;
+  unframed = ap (λ (g : Key → Held). is_framed (g k)) same ∙ stored_unframed (s.life.stands k) h;
+}
 
 -- a fault of a device behind other moves
 pub fault_later : (ms : List Move) (s t z : StateOf) → DoesMoves ms s t → SomeFault t z → SomeFault s z
@@ -296,6 +344,14 @@ given_beside k s y z n o e place a q =
     ∙ ap (λ (b : Bool). if b then y.names else changed same_place y.names place (Some (key_of_place place))) (same_place-self place) ∙ n
 
 -- its frame can be written
+-- so is what is written to it
+calm_again : (q : Request) → is_calm q ≡ true → is_write q ≡ true → is_again q ≡ true
+calm_again request.WriteAgain c w = refl
+calm_again q c w = cc
+
+pub soiled_for : (k : Key) (r : Record) → r.owner ≡ Some k → IsSoiled r → IsSoiledFor k r
+soiled_for k r o s = record { owner = o; changed = s.changed; again = calm_again r.request s.calm }
+
 pub given_soiled : (l m : FrameLife) (f : Frame) (k : Key) → m ≡ after_move l (move.Give f k) → (record_at m.frames f.0).owner ≡ Some k → IsSoiled (record_at m.frames f.0)
 given_soiled l m f k e o = elim (set_there l.frames.records f.0 (given k)) [
   | inl h ↦ let all = ap (λ (x : FrameLife). record_at x.frames f.0) e ∙ h in record { changed = ap (λ (r : Record). r.changed) all; calm = ap (λ (r : Record). is_calm r.request) all }
@@ -313,10 +369,6 @@ map_legal k f place s h i fits free touch below =
     let quiet = i.quiet in
     let none : is_none (s.life.valid place) ≡ true = ap is_none free in
     grind (arith, own, quiet, none, touch, below)
-
--- a key without bytes is dead
-pub dead_of : (k : Key) (s : StateOf) → StateHolds s → s.contents k ≡ None → is_dead (s.life.stands k) ≡ true
-dead_of k s h e = not_false (is_dead (s.life.stands k)) (h.live k ∙ ap is_some e)
 
 pub may_map : (k : Key) (f : Frame) (place : Place) (s : StateOf) → StateHolds s → InQuietFrame k f s → (is_shared k ≡ true → s.contents (key_of_place place) ≡ None) → MayMap s.life f place
 may_map k f place s h i alone = λ e. dead_of (key_of_place place) s h (alone (sym (own_test is_shared (record_at s.life.frames f.0) k (h.owner k f i.stands)) ∙ e))
@@ -348,12 +400,34 @@ placed_after k f place s y z kind e q = record {
 
 -- ---- the piece
 
-pub went_map : (a : Aim) (f : Frame) (place : Place) (s z : StateOf) → a.place ≡ place → Made (move.Map f place) s z → Went a 0 s z
-went_map a f place s z e m = went_one a (move.Map f place) s z m (sym e) refl refl (omega arith) (omega arith)
+-- no copy has come to be, so it is the page of the access that becomes valid
+not_copied : (a : Aim) (s : StateOf) → StateHolds s → IsUncopied a s → is_copied a.need s.life ≡ false
+not_copied a s h u = at a.need.copy refl
+  where
+    at : (o : Option Key) → a.need.copy ≡ o → unwrap_or (option_map (λ (k : Key). is_live s.life k) o) false ≡ false
+    at None e = refl
+    at (Some k) e = h.live k ∙ ap is_some (u k e)
 
-pub went_unmap_map : (a : Aim) (f : Frame) (place p : Place) (s y z : StateOf) → a.place ≡ place → p.pid ≡ place.pid → s.life.valid place ≡ None → is_at_max (set_of s.life place.pid.0) ≡ true → IsOldest s.life s.ages None p → Made (move.Unmap p) s y → Made (move.Map f place) y z → Went a 0 s z
-went_unmap_map a f place p s y z e q free full old u m = piece_of a IsFresh false 0 0 0 [] (move.Unmap p ∷ move.Map f place ∷ []) s z (does_two (move.Unmap p) (move.Map f place) s y z u m)
-    (FromFull (q ∙ ap (λ (x : Place). x.pid) (sym e)) (ap s.life.valid e ∙ free) (ap (λ (x : Pid). is_at_max (set_of s.life x.0)) q ∙ full) old (f, ap (λ (x : Place). move.Map f x) (sym e)), (sym e, tt)) refl refl (omega arith) (omega arith)
+shown_of : (a : Aim) (k : Key) (f : Frame) (place : Place) (s : StateOf) → StateHolds s → PutsFor a k place s → InQuietFrame k f s → (record_at s.life.frames f.0).owner ≡ Some (key_shown a.need s.life)
+shown_of a k f place s h p i =
+    h.owner k f i.stands ∙ ap (λ (x : Key). Some x) (sym p.needs)
+    ∙ ap (λ (b : Bool). Some (if b then key_written a.need else a.need.key)) (sym (not_copied a s h p.uncopied))
+
+pub uncopied_then : (a : Aim) (s y : StateOf) → y.contents ≡ s.contents → IsUncopied a s → IsUncopied a y
+uncopied_then a s y e u j c = ap (λ (g : Key → Option (List ℕ)). g j) e ∙ u j c
+
+pub went_map : (a : Aim) (k : Key) (f : Frame) (place : Place) (s z : StateOf) → StateHolds s → InQuietFrame k f s → PutsFor a k place s → Made (move.Map f place) s z → Went a 0 s z
+went_map a k f place s z h i p m = went_one a (move.Map f place) s z m (sym p.at, shown_of a k f place s h p i) refl refl (omega arith) (omega arith)
+
+pub went_unmap_map : (a : Aim) (k : Key) (f : Frame) (place p : Place) (s y z : StateOf) → StateHolds y → InQuietFrame k f y → y ≡ moved s y → PutsFor a k place s → p.pid ≡ place.pid → s.life.valid place ≡ None → is_at_max (set_of s.life place.pid.0) ≡ true → IsOldest s.life s.ages None p → Made (move.Unmap p) s y → Made (move.Map f place) y z → Went a 0 s z
+went_unmap_map a k f place p s y z h i same b q free full old u m =
+    let e = b.at in
+    let puts : PutsFor a k place y = record { at = e; needs = b.needs; uncopied = uncopied_then a s y (ap (λ (x : StateOf). x.contents) same) b.uncopied } in
+    piece_of a IsFresh false 0 0 0 [] (move.Unmap p ∷ move.Map f place ∷ []) s z (does_two (move.Unmap p) (move.Map f place) s y z u m)
+    (FromFull (q ∙ ap (λ (x : Place). x.pid) (sym e)) (ap s.life.valid e ∙ free) (ap (λ (x : Pid). is_at_max (set_of s.life x.0)) q ∙ full) old (f, ap (λ (x : Place). move.Map f x) (sym e)), ((sym e, shown_in u.life (shown_of a k f place y h puts i)), tt)) refl refl (omega arith) (omega arith)
+  where
+    shown_in : {l : FrameLife} → y.life ≡ l → (record_at y.life.frames f.0).owner ≡ Some (key_shown a.need y.life) → (record_at l.frames f.0).owner ≡ Some (key_shown a.need l)
+    shown_in e h = subst (λ (l : FrameLife). (record_at l.frames f.0).owner ≡ Some (key_shown a.need l)) e h
 
 -- ---- the oldest page of a full set
 

@@ -5,9 +5,9 @@ use Rattle.mm_types.specs.{PageFault, limit_of, Frame, Key, Place}
 use Rattle.mm_types.specs.declared.moves.LineKind.TheVariants as kind
 use Rattle.mm_move_rules.specs.{record_at, FrameLife, changed, same_key, same_place, is_live, is_shared, key_of_place, is_short, shows_shared, zero_page}
 use Rattle.mm_frame_laws.specs.{IsSoiled}
-use Rattle.mm_store.specs.{Aim, is_framed}
+use Rattle.mm_store.specs.{Aim, IsSoiledFor, is_framed}
 use Rattle.mm_state_calls.specs.{StateOf, moved_with_call, IsFlightOf}
-use Rattle.mm_pager.specs.Pieces.{Went, Stuck, TookFrame, Calm, Causes, InQuietFrame, LifeBut, LifeKept, Reaches}
+use Rattle.mm_pager.specs.Pieces.{Went, IsUncopied, Stuck, TookFrame, Calm, Causes, InQuietFrame, LifeBut, LifeKept, Reaches}
 
 -- it makes a copy of the page, which becomes the place's own
 pub record CopiesFrom (a : Aim) (k : Key) (place : Place) (s : StateOf) : Type 0 where
@@ -26,7 +26,8 @@ pub record HeldAt (k : Key) (f : Frame) (place : Place) (s : StateOf) : Type 0 w
 
 -- the page is valid at the place now, where it was or by a fault, and its frame can be pinned
 pub record Readied (k : Key) (f : Frame) (place : Place) (s z : StateOf) : Type 0 where
-  pub went : (a : Aim) → Reaches a k place s → Went a (most_reads (s.life.valid place)) s z
+  pub went : (a : Aim) → Reaches a k place s → IsUncopied a s →
+      Went a (most_reads (s.life.valid place)) s z
   pub held : HeldAt k f place z
   pub flight : IsFlightOf s.life.flight (Some f) z.life
   pub calm : Calm s z
@@ -46,10 +47,12 @@ pub record Pins (a : Aim) (place : Place) (f : Frame) (s : StateOf) : Type 0 whe
 abbrev pub KeyAdded : Key → FrameLife → FrameLife → Type 0
 KeyAdded k l m = LifeBut (changed same_key l.paging k true) (l.paging_keys + 1) l m
 
--- the place's own page is there, a copy of this page, and valid
-pub record Copied (k : Key) (place : Place) (s z : StateOf) : Type 0 where
+-- the place's own page is there, a copy of this page, valid and soiled
+pub record CopyMapped (k : Key) (place : Place) (s z : StateOf) : Type 0 where
   pub life : KeyAdded (key_of_place place) s.life z.life
   pub valid : is_some (z.life.valid place) ≡ true
+  pub soiled : (f : Frame) → z.life.valid place ≡ Some f →
+      IsSoiledFor (key_of_place place) (record_at z.life.frames f.0)
   pub young : z.ages place ≡ 0
   pub names : z.names ≡ changed same_place s.names place (Some (key_of_place place))
   pub contents : z.contents ≡ changed same_key s.contents (key_of_place place) (s.contents k)
@@ -126,7 +129,7 @@ pub record CopyPut (place : Place) (f : Frame) (s z : StateOf) : Type 0 where
 -- a page was copied to the place's own
 pub record CopiesPage (k : Key) (place : Place) (s z : StateOf) : Type 0 where
   pub went : (a : Aim) → CopiesFrom a k place s → Went a (most_reads (s.life.valid place)) s z
-  pub copied : Copied k place s z
+  pub copied : CopyMapped k place s z
 
 -- it was not: the page could not be brought, or no frame could be had
 pub record FailsToCopyPage (k : Key) (place : Place) (e : PageFault) (s z : StateOf) : Type 0 where

@@ -11,7 +11,7 @@ use Rattle.mm_frame_laws.specs.{IsSoiled}
 use Rattle.mm_store.specs.{Aim, no_calls, is_framed}
 use Rattle.mm_parts.specs.{HasSet, front}
 use Rattle.mm_state_calls.specs.{StateOf, Made, Searched, moved, moved_with_call, IsFlightOf}
-use Rattle.mm_pager.specs.Pieces.{Went, Stuck, TookFrame, IsFor, AccessBegins, KeepsButNames, Calm, NamesFor, Placed, Fails, InQuietFrame}
+use Rattle.mm_pager.specs.Pieces.{Went, Stuck, TookFrame, AccessBegins, KeepsButNames, Calm, NamesFor, Placed, Fails, InQuietFrame}
 
 -- nothing changed but what calls of devices and moves change, and names
 abbrev pub IsCalledOn : StateOf → StateOf → Type 0
@@ -54,22 +54,22 @@ pub record FindsNone (pinned : Option Frame) (e : PageFault) (s z : StateOf) : T
   pub searched : Searched pinned false s z
 
 -- a frame is free or zeroed now, where one could be taken: it was, or the first on standby is taken
-pub data Frees (s z : StateOf) : Type 0 where
-  Free : z ≡ s → Frees s z
+pub data FreeNow (s z : StateOf) : Type 0 where
+  Free : z ≡ s → FreeNow s z
   Stolen : is_empty s.life.frames.zeroed ≡ true → is_empty s.life.frames.free ≡ true →
-      Made (move.Steal (front s.life.frames.standby)) s z → z ≡ moved s z → Frees s z
+      Made (move.Steal (front s.life.frames.standby)) s z → z ≡ moved s z → FreeNow s z
 
 -- a frame is zeroed now: it was, or the first that is free then is cleared
 pub data Readies (s z : StateOf) : Type 0 where
   Zeroed : z ≡ s → Readies s z
-  Cleared : (x : StateOf) → is_empty s.life.frames.zeroed ≡ true → Frees s x →
+  Cleared : (x : StateOf) → is_empty s.life.frames.zeroed ≡ true → FreeNow s x →
       Made (move.Clear (front x.life.frames.free)) x z → z ≡ moved x z → Readies s z
 
 -- ---- a frame is given
 
 -- a demand-zero page got this frame: no device was called, and no place is valid that was not
 pub record GivesFrame (k : Key) (f : Frame) (s z : StateOf) : Type 0 where
-  pub went : (a : Aim) → IsFor a k → TookFrame a 0 s z
+  pub went : (a : Aim) → a.need.key ≡ k → s.life.valid a.place ≡ None → TookFrame a 0 s z
   pub keeps : KeepsButNames s z
   pub stored : (z.slots ≡ s.slots) × (z.blocks ≡ s.blocks)
   pub calm : z.told ≡ record (s.told) { search_writes = no_calls }

@@ -8,7 +8,8 @@ use Rattle.mm_types.specs.declared.frames.Held.TheVariants as held
 use Rattle.mm_types.specs.declared.numbers.Key.TheVariants.{Private, Shared}
 use Rattle.mm_devices.specs.{Call, AllServed, logged_call, CallFailed, IsLater, KeepsOthers}
 use Rattle.mm_world.specs.{filled, Tally}
-use Rattle.mm_store.specs.{MakesFrom, Turned, writes_from, last_write, changed, tallied}
+use Rattle.mm_store.specs.{MakesFrom, Turned, writes_from, last_write, tallied}
+use Rattle.mm_move_rules.specs.{changed}
 use Rattle.mm_state_calls.specs.{StateOf, moved, DoesMoves}
 
 -- the file device was called so, to write blocks, and nothing but it was changed

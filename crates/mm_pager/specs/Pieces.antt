@@ -9,7 +9,7 @@ use Rattle.mm_types.specs.declared.moves.Move.TheVariants as move
 use Rattle.mm_types.specs.declared.numbers.Key.TheVariants.{Private, Shared}
 use Rattle.mm_move_rules.specs.{record_at, is_read, is_short, Walk, Through, walked_all, is_read_move, takes_frame, is_wrote_move, Starved, ending}
 use Rattle.mm_move_rules.specs.{FrameLife, changed, same_place, fits_place}
-use Rattle.mm_store.specs.{Done, Aim, AccessMove, ReadFails, is_read_fault, is_had, place_at, Turns, page_rank, PassesIn, no_calls, is_framed}
+use Rattle.mm_store.specs.{Done, Aim, AccessMove, ReadFails, is_read_fault, is_had, place_at, Turns, page_rank, PassesIn, no_calls, is_framed, is_shortage}
 use Rattle.mm_store.specs.declared.outcomes.Done.TheVariants as done
 use Rattle.mm_store.specs.Housekeeping.{Ends}
 use Rattle.mm_store.specs.Leaving.{Leaving}
@@ -40,9 +40,10 @@ IsFresh w = w.tried ≡ []
 abbrev pub Anywhere : Walk → Type 0
 Anywhere w = Unit {0}
 
--- where no frame could be had all was tried
+-- where no frame could be had one was wanted, and all was tried
 abbrev pub HasTried : Aim → PageFault → StateOf → Walk → Type 0
-HasTried a why z w = why ≡ fault.NoFrame → Starved (z.life.valid a.place) w
+HasTried a why z w = why ≡ fault.NoFrame → (is_shortage a.need a.place z.life ≡ true) ×
+    Starved (z.life.valid a.place) w
 
 -- moves of an access, with at most so many reads, after which a new search would begin
 abbrev pub Went : Aim → ℕ → StateOf → StateOf → Type 0
@@ -63,14 +64,22 @@ TakesFrame a End failed reads s z = (t : List ℕ) → Piece a End failed reads 
 abbrev pub TookFrame : Aim → ℕ → StateOf → StateOf → Type 0
 TookFrame a reads s z = TakesFrame a IsFresh false reads s z
 
--- a frame is for this page
-abbrev pub IsFor : Aim → Key → Type 0
-IsFor a k = (k ≡ a.need.key) ⊎ (a.need.copy ≡ Some k)
+-- the copy that an access makes, if any, has not come to be
+abbrev pub IsUncopied : Aim → StateOf → Type 0
+IsUncopied a s = (j : Key) → a.need.copy ≡ Some j → s.contents j ≡ None
 
--- a page is read, which had no frame when the access began
-pub record ReadsFor (a : Aim) (k : Key) : Type 0 where
+-- a page is read for a place that is not valid: it has no frame, and had none when the access began
+pub record ReadsFor (a : Aim) (k : Key) (s : StateOf) : Type 0 where
   pub needs : a.need.key ≡ k
   pub absent : is_had a.start (a.start.stands k) ≡ false
+  pub free : s.life.valid a.place ≡ None
+  pub unframed : is_framed (s.life.stands k) ≡ false
+
+-- the page of an access becomes valid at its place, where no copy has come to be
+pub record PutsFor (a : Aim) (k : Key) (place : Place) (s : StateOf) : Type 0 where
+  pub at : a.place ≡ place
+  pub needs : a.need.key ≡ k
+  pub uncopied : IsUncopied a s
 
 -- the access begins here, at this place, for this page
 pub record Reaches (a : Aim) (k : Key) (place : Place) (s : StateOf) : Type 0 where
@@ -83,6 +92,7 @@ pub record AccessBegins (a : Aim) (k : Key) (s : StateOf) : Type 0 where
   pub needs : a.need.key ≡ k
   pub from : a.start ≡ s.life
   pub at : s.life.valid a.place ≡ None
+  pub uncopied : IsUncopied a s
 
 -- what stays in an access, but for names
 pub record KeepsButNames (s z : StateOf) : Type 0 where

@@ -4,12 +4,12 @@ use Rattle.std.specs.Prelude.{◌≡◌, ◌⊎◌, Bool, true, false, Option, S
 use Rattle.mm_types.specs.{Why, Frame, Key, Place}
 use Rattle.mm_types.specs.declared.answers.Why.TheVariants as why
 use Rattle.mm_types.specs.declared.frames.Held.TheVariants as held
-use Rattle.mm_move_rules.specs.{record_at, is_read, changed, same_place, is_short}
+use Rattle.mm_move_rules.specs.{record_at, is_read, is_stored, has_depth, changed, same_place, is_short}
 use Rattle.mm_store.specs.{Aim, need_for, waits_at_once, is_framed, Ready, Need, Start}
 use Rattle.mm_store.specs.declared.outcomes.Need.TheVariants as need
 use Rattle.mm_store.specs.declared.outcomes.Start.TheVariants as start
 use Rattle.mm_state_calls.specs.{StateOf, moved_with_call}
-use Rattle.mm_pager.specs.Pieces.{Went, Reaches}
+use Rattle.mm_pager.specs.Pieces.{Went, IsUncopied, Reaches}
 use Rattle.mm_pager.specs.Shown.{OwnOf, report_of}
 
 -- why it waits whatever frames there are, by its answer
@@ -28,9 +28,21 @@ abbrev pub IsBeingRead : Key → StateOf → Type 0
 IsBeingRead k s = (f : Frame) × (s.life.stands k ≡ held.Frame f) ×
     (is_read (record_at s.life.frames f.0).request ≡ true)
 
+-- no read of it can begin
+pub record IsFull (k : Key) (place : Place) (s : StateOf) : Type 0 where
+  pub free : s.life.valid place ≡ None
+  pub stored : is_stored (s.life.stands k) ≡ true
+  pub full : has_depth s.life ≡ false
+
+-- a frame is wanted: for the page, or for a copy of it, once it is valid
+abbrev pub WantsFrame : Need → Key → Place → StateOf → Type 0
+WantsFrame n k place s =
+    ((is_framed (s.life.stands k) ≡ false) × (s.life.valid place ≡ None)) ⊎
+    ((needs_copy n ≡ true) × (is_some (s.life.valid place) ≡ true))
+
 -- what the access did, whatever it answers
 pub record AccessCame (k : Key) (place : Place) (s z : StateOf) : Type 0 where
-  pub went : (a : Aim) → Reaches a k place s → Went a 1 s z
+  pub went : (a : Aim) → Reaches a k place s → IsUncopied a s → Went a 1 s z
   pub names : (z.names ≡ s.names) ⊎ (z.names ≡ changed same_place s.names place (Some k))
   pub slots : z.slots ≡ s.slots
   pub blocks : z.blocks ≡ s.blocks
@@ -47,9 +59,10 @@ pub record AccessBegun (n : Need) (k : Key) (place : Place) (result : Start) (s 
   pub at_once : (o : OwnOf) →
       waits_at_once s.life.machine.depth k (report_of s o) ≡ reason_at_once result
   pub reading : result ≡ start.Pending why.Read → IsBeingRead k z
+  pub unmapped : result ≡ start.Pending why.Read → z.life.valid place ≡ None
+  pub full : result ≡ start.Pending why.Full → IsFull k place z
   pub short : result ≡ start.Pending why.Frame → is_short z.life ≡ true
-  pub wanting : result ≡ start.Pending why.Frame → (is_framed (z.life.stands k) ≡ false) ⊎
-      (needs_copy n ≡ true)
+  pub wanting : result ≡ start.Pending why.Frame → WantsFrame n k place z
 
 -- what is ready then
 abbrev pub ready_after : Start → Need → Key → Place → Option Ready

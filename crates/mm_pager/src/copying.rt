@@ -3,7 +3,7 @@ ghost use Rattle.mm_types.specs.{limit_of};
 ghost use Rattle.mm_types.specs.declared.moves.LineKind.TheVariants as kind;
 ghost use Rattle.mm_move_rules.specs.{key_of_place, is_access, touches, shows_shared, is_short};
 ghost use Rattle.mm_store.specs.{Aim};
-ghost use Rattle.mm_pager.specs.{Went, InQuietFrame, FailsToBring, FindsNone, Readied, Pins, Copied, MayHold, NeedsAccess, MayCopyHeld, MayCopy};
+ghost use Rattle.mm_pager.specs.{Went, InQuietFrame, FailsToBring, FindsNone, Readied, Pins, CopyMapped, MayHold, NeedsAccess, MayCopyHeld, MayCopy};
 ghost use Rattle.mm_pager.specs.{CopyGiven, CopyPut, CopiesPage, FailsToCopyPage};
 
 use crate::faults::{fault, find, ready_frame};
@@ -71,7 +71,7 @@ fn copy_held<T: StateCalls>(
     requires may { MayCopyHeld from f place (T.shown state.old) }
     ensures went { OnOk result ((a : Aim) → Pins a place f (T.shown state.old)
         → Went a 0 (T.shown state.old) (T.shown state.new)) }
-    ensures copied { OnOk result (Copied from place (T.shown state.old) (T.shown state.new)) }
+    ensures copied { OnOk result (CopyMapped from place (T.shown state.old) (T.shown state.new)) }
     ensures err { IfErr result
         (λ e. FindsNone (Some f) e (T.shown state.old) (T.shown state.new)) }
     ensures loans { T.loans state.new ≡ T.loans state.old }

@@ -7,7 +7,7 @@ ghost use Rattle.mm_state_calls.specs.{Made, Searched};
 ghost use Rattle.mm_types.specs.{Frame, Place};
 ghost use Rattle.mm_frame_laws.specs.{IsSoiled};
 ghost use Rattle.mm_types.specs.declared.moves.Move.TheVariants as move;
-ghost use Rattle.mm_pager.specs.{Went, InQuietFrame, Soils, FindsNone, Frees, Readies, MayReadIn, MayUse, HasFullSet, MayFault, GivesFrame, Brings};
+ghost use Rattle.mm_pager.specs.{Went, PutsFor, InQuietFrame, Soils, FindsNone, FreeNow, Readies, MayReadIn, MayUse, HasFullSet, MayFault, GivesFrame, Brings};
 ghost use Rattle.mm_pager.specs.{FailsToBring, PutsAtPlace, Faulted, FaultsToWrite};
 
 use mm_reclaim::{NoFrame, find_frame, is_starved};
@@ -40,7 +40,7 @@ pub(crate) fn find<T: StateCalls>(state: &mut T, pinned: Option<Frame>) -> Resul
 pub(crate) fn free_frame<T: StateCalls>(state: &mut T)
     requires touch { is_touch (T.shown state.old).life.kind ≡ true }
     requires some { is_short (T.shown state.old).life ≡ false }
-    ensures frees { Frees (T.shown state.old) (T.shown state.new) }
+    ensures frees { FreeNow (T.shown state.old) (T.shown state.new) }
     ensures some { is_empty (T.shown state.new).life.frames.zeroed ≡ true
         → is_empty (T.shown state.new).life.frames.free ≡ false }
     ensures loans { T.loans state.new ≡ T.loans state.old }
@@ -165,7 +165,8 @@ fn put_full<T: StateCalls>(state: &mut T, key: Key, f: Frame, place: Place)
     requires usable { MayUse key place (T.shown state.old) }
     requires free { (T.shown state.old).life.valid place ≡ None }
     requires set { HasFullSet (T.shown state.old).life place.pid.0 }
-    ensures went { (a : Aim) → a.place ≡ place → Went a 0 (T.shown state.old) (T.shown state.new) }
+    ensures went { (a : Aim) → PutsFor a key place (T.shown state.old)
+        → Went a 0 (T.shown state.old) (T.shown state.new) }
     ensures puts { PutsAtPlace key f place (T.shown state.old) (T.shown state.new) }
     ensures loans { T.loans state.new ≡ T.loans state.old }
 {
@@ -188,7 +189,8 @@ pub(crate) fn put<T: StateCalls>(state: &mut T, key: Key, f: Frame, place: Place
     requires frame { InQuietFrame key f (T.shown state.old) }
     requires usable { MayUse key place (T.shown state.old) }
     requires free { (T.shown state.old).life.valid place ≡ None }
-    ensures went { (a : Aim) → a.place ≡ place → Went a 0 (T.shown state.old) (T.shown state.new) }
+    ensures went { (a : Aim) → PutsFor a key place (T.shown state.old)
+        → Went a 0 (T.shown state.old) (T.shown state.new) }
     ensures puts { PutsAtPlace key f place (T.shown state.old) (T.shown state.new) }
     ensures loans { T.loans state.new ≡ T.loans state.old }
 {

@@ -4,7 +4,8 @@ ghost use Rattle.mm_types.specs.declared.answers.Why.TheVariants as why;
 ghost use Rattle.mm_types.specs.declared.frames.Held.TheVariants as held;
 ghost use Rattle.mm_types.specs.declared.moves.LineKind.TheVariants as kind;
 ghost use Rattle.mm_move_rules.specs.{is_live, is_zero, is_stored, is_short, is_thread};
-ghost use Rattle.mm_store.specs.{wait_begun, changed};
+ghost use Rattle.mm_store.specs.{wait_begun};
+ghost use Rattle.mm_move_rules.specs.{changed};
 ghost use Rattle.mm_store.specs.declared.outcomes.Need.TheVariants as wanted;
 ghost use Rattle.mm_store.specs.declared.outcomes.Start.TheVariants as start_of;
 ghost use Rattle.mm_pager.specs.{ready_at, MayUse, AccessBegun, IsBeingRead, answered, ready_after};
@@ -58,7 +59,7 @@ fn start_zero<T: StateCalls>(state: &mut T, key: Key, place: Place) -> Start
 fn start_stored<T: StateCalls>(state: &mut T, key: Key) -> Start
     requires thread { is_thread (T.shown state.old).life.kind ≡ true }
     requires stored { is_stored ((T.shown state.old).life.stands key) ≡ true }
-    ensures begun { (place : Place)
+    ensures begun { (place : Place) → (T.shown state.old).life.valid place ≡ None
         → AccessBegun wanted.Touch key place result (T.shown state.old) (T.shown state.new) }
     ensures loans { T.loans state.new ≡ T.loans state.old }
 {

@@ -15,14 +15,14 @@ use Rattle.mm_move_laws.proofs.{lowest_taken}
 use Rattle.mm_page_tables.specs.{IsEntry, Entry, WordsOf, key_entry, is_valid_entry, is_there, keeps_places, has_word, valid_frame, made_valid, place_from}
 use Rattle.mm_page_tables.specs.{bare}
 use Rattle.mm_parts.specs.{JoinedParts, valid_of, owners, owned_by, life_in, requests_in, PartsKept, front, home_entry, entry_backing, CanLeave}
-use Rattle.mm_parts.specs.{CanName, own_request, is_own_line, lowest_free, goes_to, write_target}
+use Rattle.mm_parts.specs.{CanName, own_request, is_own_line, lowest_free_slot, goes_to, write_target}
 use Rattle.mm_parts.proofs.Reading.{front_is}
 use Rattle.mm_parts.proofs.Keeping.{known, valid_owned}
 use Rattle.mm_parts.proofs.KeyChanges.{places_kept}
 use Rattle.mm_parts.proofs.Reading.{in_frame, resting_word, backing_bare, backing_held, no_block}
 use Rattle.mm_slots.specs.{free_count, IsLowest}
 use Rattle.mm_pfn_database.specs.{has_block, can_go_to}
-use Rattle.mm_requests.specs.{is_in}
+use Rattle.mm_requests.specs.{is_requested}
 use Rattle.mm_frame_laws.specs.{backing_to}
 use Rattle.mm_parts.proofs.RequestLists.{not_in_flight}
 use Rattle.mm_types.specs.declared.frames.Backing.TheVariants as backing
@@ -196,7 +196,7 @@ not_own kind.Call h = cc
 not_own _ h = (refl, refl)
 
 -- a frame without a request is not in flight
-pub new_in : (t : JoinedParts) → PartsKept t → (f : ℕ) → has_request (record_at t.table f).request ≡ false → is_in f t.flight.frames ≡ false
+pub new_in : (t : JoinedParts) → PartsKept t → (f : ℕ) → has_request (record_at t.table f).request ≡ false → is_requested f t.flight.frames ≡ false
 new_in t kept f quiet = not_in_flight f t.own t.flight.frames (((known t kept).standing f).flight ∙ ap one_if quiet)
 
 -- ---- reads
@@ -217,7 +217,7 @@ read_there t f k legal =
 pub read_fresh : (t : JoinedParts) → (kept : PartsKept t) → (f : Frame) (k : Key) → IsLegal (move.Read f k) (life_in t) → Fresh t.table (requests_in t) f.0 (known t kept).standing
 read_fresh t kept f k legal = fresh_read t.table (requests_in t) f.0 (known t kept).standing (read_there t f k legal)
 
-pub read_new : (t : JoinedParts) → PartsKept t → (f : Frame) (k : Key) → IsLegal (move.Read f k) (life_in t) → is_in f.0 t.flight.frames ≡ false
+pub read_new : (t : JoinedParts) → PartsKept t → (f : Frame) (k : Key) → IsLegal (move.Read f k) (life_in t) → is_requested f.0 t.flight.frames ≡ false
 read_new t kept f k legal = new_in t kept f.0 (ap (λ (r : Record). has_request r.request) (read_fresh t kept f k legal).bare)
 
 some_frame : (free zeroed : List ℕ) (f : ℕ) → (is_first f free || (is_empty free && is_first f zeroed)) ≡ true → is_empty free ≡ true → is_empty zeroed ≡ false
@@ -287,7 +287,7 @@ lowest_tail : (rest : List Bool) (s : ℕ) → IsLowest (false ∷ rest) (suc s)
 lowest_tail rest s h = record { is_free = h.is_free; below = λ k low. h.below (suc k) (omega (arith, low)) }
 
 -- the slot that is taken is the one that the move names
-pub lowest_is : (free : List Bool) (s : ℕ) → IsLowest free s → s ≡ lowest_free free
+pub lowest_is : (free : List Bool) (s : ℕ) → IsLowest free s → s ≡ lowest_free_slot free
 lowest_is [] s h = let bad : None ≡ Some true = h.is_free in cc
 lowest_is (true ∷ rest) s h = lowest_head rest s h
 lowest_is (false ∷ rest) zero h = let bad : Some false ≡ Some true = h.is_free in cc
@@ -310,6 +310,6 @@ write_low t f s can = kept_inside t.table f.0 (or_left (is_some (record_at t.tab
 -- a page without a block has a free slot to go to
 pub write_free : (t : JoinedParts) (f : Frame) → IsLegal (move.Write f (write_target (life_in t) f)) (life_in t) → (b : Backing) → b ≡ (record_at t.table f.0).backing → has_block b ≡ false → free_count t.free ≢ 0
 write_free t f legal b is none empty =
-    let to : write_target (life_in t) f ≡ stored.Slot (record { 0 = lowest_free t.free }) = ap (λ x. goes_to x (lowest_free t.free)) (sym is) ∙ target_slot b (lowest_free t.free) none in
-    let slot_legal : IsLegal (move.Write f (stored.Slot (record { 0 = lowest_free t.free }))) (life_in t) = subst (λ (x : Stored). IsLegal (move.Write f x) (life_in t)) to legal in
-    let more = lowest_taken t.free (lowest_free t.free) (slot_lowest t f (record { 0 = lowest_free t.free }) slot_legal) in omega (arith, more, empty)
+    let to : write_target (life_in t) f ≡ stored.Slot (record { 0 = lowest_free_slot t.free }) = ap (λ x. goes_to x (lowest_free_slot t.free)) (sym is) ∙ target_slot b (lowest_free_slot t.free) none in
+    let slot_legal : IsLegal (move.Write f (stored.Slot (record { 0 = lowest_free_slot t.free }))) (life_in t) = subst (λ (x : Stored). IsLegal (move.Write f x) (life_in t)) to legal in
+    let more = lowest_taken t.free (lowest_free_slot t.free) (slot_lowest t f (record { 0 = lowest_free_slot t.free }) slot_legal) in omega (arith, more, empty)

@@ -13,7 +13,7 @@ use Rattle.mm_move_laws.proofs.{read_has, write_has, kept_inside, changes_give, 
 use Rattle.mm_pfn_database.specs.{FramesOf, has_block, slot_after_write, write_ended, read_ended}
 use Rattle.mm_requests.specs.{ended}
 use Rattle.mm_parts.specs.{JoinedParts, life_in, shown_of, requests_in, own_is, is_own_line, PartsKept, parts_after, own_after, own_ended}
-use Rattle.mm_parts.specs.{flight_begun, flight_ended, write_end, slots_to, owners, owned_by, held_by, stands_of, names_of, is_paging, life_of}
+use Rattle.mm_parts.specs.{flight_begun, flight_ended, write_end, slots_to, owners, owned_by, held_by, stands_of, names_of, is_of_paging_file, life_of}
 use Rattle.mm_parts.specs.{requests, is_aside_entry, names_after_give, home_entry, words_sent, CanSend, end_of_read, PartsOf}
 use Rattle.mm_frame_laws.specs.{backing_to}
 use Rattle.mm_frame_laws.proofs.{records_ended}
@@ -234,7 +234,7 @@ give_step t kept f k legal =
     let re = comes_in t kept (after_give d f.0 k) f (given k) k change refl bare (ap is_valid_entry word) in
     key_step t kept (after_give d f.0 k) f (given k) k (entry.Transition f) re (move.Give f k) legal t.line t.bytes t.free t.flight t.own (names_after_give (shown_of t).aside (shown_of t).names k)
     (key_life t kept (after_give d f.0 k) f (given k) k (entry.Transition f) re t.free (requests_in t)
-    (ap (λ (x : Record). not (has_block x.backing)) c.here ∙ sym (ap (λ e. is_paging d (held_by (owned_by (owners d) k) e)) word)))
+    (ap (λ (x : Record). not (has_block x.backing)) c.here ∙ sym (ap (λ e. is_of_paging_file d (held_by (owned_by (owners d) k) e)) word)))
     (names_give t k f)
     kept.line refl refl kept.within.requesting refl
     (waits_frame d (after_give d f.0 k) f.0 (given k) t.flight change (λ read. let bad : true ≡ false = sym read ∙ ap (λ (x : Record). is_read x.request) bare in cc) kept.waits)
@@ -311,7 +311,7 @@ module _ (t : JoinedParts) (kept : PartsKept t) (f : Frame) (k : Key) (leaves : 
       ≡ record (life_in t) { frames = d'; free_slots = free'; stands = homed (life_in t) (record_at t.table f.0).owner (record_at t.table f.0).backing; flight = flight' }
   leaving_life d' records free' flight' =
       key_life t kept d' f blank k (home_entry home_of) (leaving d' records) free' flight'
-      (home_paging d' (owned_by (owners d') k) home_of ∙ sym (ap (is_paging t.table) ((known t kept).owned f.0 k leaves.owner)))
+      (home_paging d' (owned_by (owners d') k) home_of ∙ sym (ap (is_of_paging_file t.table) ((known t kept).owned f.0 k leaves.owner)))
       ∙ ap (λ h. record (life_in t) { frames = d'; free_slots = free'; stands = changed same_key (stands_of (owners t.table) t.words) k h; flight = flight' }) (home_held (owned_by (owners d') k) home_of)
       ∙ ap (λ o. record (life_in t) { frames = d'; free_slots = free'; stands = homed (life_in t) o home_of; flight = flight' }) (sym leaves.owner)
 

@@ -12,7 +12,7 @@ use Rattle.mm_move_laws.proofs.Sights.{kept_inside}
 use Rattle.mm_move_laws.proofs.Deduced.{blocks_apart}
 use Rattle.mm_page_tables.specs.{Entry, Aside, key_entry, has_word, is_there, valid_frame}
 use Rattle.mm_page_tables.specs.declared.layout.Entry.TheVariants as entry
-use Rattle.mm_requests.specs.{is_in}
+use Rattle.mm_requests.specs.{is_requested}
 use Rattle.mm_parts.specs.{JoinedParts, Owners, owners, owned_by, held_by, named_by, life_in, shown_of, requests, requests_in, own_is, HasSet}
 use Rattle.mm_parts.specs.{LinesHold, PagesHold, StorageHolds, PartsKept}
 use Rattle.mm_move_laws.proofs.Facts.{Facts}
@@ -30,7 +30,7 @@ pub read_once : (t : JoinedParts) → PartsKept t → (f : ℕ) → is_read (rec
 read_once t kept f h = ((known t kept).standing f).flight ∙ ap one_if (read_has (record_at t.table f).request h)
 
 -- a request in flight is not the line's own
-not_own : (t : JoinedParts) → PartsKept t → (f : ℕ) → is_in f t.flight.frames ≡ true → is_read (record_at t.table f).request ≡ true → own_is t.own f ≡ false
+not_own : (t : JoinedParts) → PartsKept t → (f : ℕ) → is_requested f t.flight.frames ≡ true → is_read (record_at t.table f).request ≡ true → own_is t.own f ≡ false
 not_own t kept f flies reads = not_true (own_is t.own f) (λ e. let bad : true ≡ false = sym flies ∙ own_apart f t.own t.flight.frames (read_once t kept f reads) e in cc)
 
 few_by : (t : JoinedParts) → PartsKept t → length t.flight.frames ≤ t.flight.depth → t.own ≡ None → length (requests_in t) ≤ t.line.machine.depth

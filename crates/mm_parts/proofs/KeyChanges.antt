@@ -15,7 +15,7 @@ use Rattle.mm_pfn_database.specs.{has_block}
 use Rattle.mm_requests.specs.{FlightOf}
 use Rattle.mm_page_tables.specs.{Entry, Aside, WordsOf, key_entry, with_entry, with_own, keeps_places, is_valid_entry, is_aside, place_from}
 use Rattle.mm_page_tables.specs.declared.layout.Entry.TheVariants as entry
-use Rattle.mm_parts.specs.{JoinedParts, LineOf, owners, owned_by, held_by, stands_of, valid_of, names_of, is_paging, paging_of, life_of, life_in}
+use Rattle.mm_parts.specs.{JoinedParts, LineOf, owners, owned_by, held_by, stands_of, valid_of, names_of, is_of_paging_file, paging_of, life_of, life_in}
 use Rattle.mm_parts.specs.{shown_of, requests, is_own_line, WordsKept, is_aside_entry, names_other, PartsKept, LineKept, AreWaits, parts_after}
 use Rattle.mm_parts.proofs.Stands.{paging_at, same_life, if_either, by_key, by_place, own_cases, stands_set, stands_owner, proto_by, left_set, sets_set, valid_set, word_set}
 use Rattle.mm_parts.proofs.Stands.{Rewrites}
@@ -137,9 +137,9 @@ module _ (t : JoinedParts) (kept : PartsKept t) (d' : FrameTable) (f : Frame) (r
       ∙ ap (λ h. cond (same_key q k) (held_by (owned_by (owners d') k) e) h) (stands_owner (owners t.table) (owners d') t.words kept.words.beside owner_kept q)
 
   -- every other key is a page-file key or not as before
-  pub key_paging : (q : Key) → paging_of d' (stands_of (owners d') (with_entry t.words k e)) q ≡ changed same_key (paging_of t.table (stands_of (owners t.table) t.words)) k (is_paging d' (held_by (owned_by (owners d') k) e)) q
-  key_paging q = ap (is_paging d') (key_stands q)
-      ∙ by_key q k (λ b. is_paging d' (cond b (held_by (owned_by (owners d') k) e) (stands_of (owners t.table) t.words q))) (λ b. cond b (is_paging d' (held_by (owned_by (owners d') k) e)) (is_paging t.table (stands_of (owners t.table) t.words q))) (λ s. refl)
+  pub key_paging : (q : Key) → paging_of d' (stands_of (owners d') (with_entry t.words k e)) q ≡ changed same_key (paging_of t.table (stands_of (owners t.table) t.words)) k (is_of_paging_file d' (held_by (owned_by (owners d') k) e)) q
+  key_paging q = ap (is_of_paging_file d') (key_stands q)
+      ∙ by_key q k (λ b. is_of_paging_file d' (cond b (held_by (owned_by (owners d') k) e) (stands_of (owners t.table) t.words q))) (λ b. cond b (is_of_paging_file d' (held_by (owned_by (owners d') k) e)) (is_of_paging_file t.table (stands_of (owners t.table) t.words q))) (λ s. refl)
       (λ n. paging_at t.table d' (stands_of (owners t.table) t.words q) (λ g at. ap (λ (x : Record). has_block x.backing) (re.change.elsewhere g.0 (λ same. n (re.only q (at ∙ λ i. held.Frame (record { 0 = same i })))))))
 
   key_words : WordsKept d' (with_entry t.words k e)
@@ -176,7 +176,7 @@ module _ (t : JoinedParts) (kept : PartsKept t) (d' : FrameTable) (f : Frame) (r
   key_valid = valid_set t.words k e (places_kept t.words k e (resting_calm k e re.resting) re.calm)
 
   -- the state of the replay then, where the key is a page-file key as before
-  pub key_life : (free' : List Bool) (flight' : List ℕ) → is_paging d' (held_by (owned_by (owners d') k) e) ≡ is_paging t.table (stands_of (owners t.table) t.words k)
+  pub key_life : (free' : List Bool) (flight' : List ℕ) → is_of_paging_file d' (held_by (owned_by (owners d') k) e) ≡ is_of_paging_file t.table (stands_of (owners t.table) t.words k)
       → life_of t.line d' free' (with_entry t.words k e) flight'
       ≡ record (life_in t) { frames = d'; free_slots = free'; stands = changed same_key (stands_of (owners t.table) t.words) k (held_by (owned_by (owners d') k) e); flight = flight' }
   key_life free' flight' here =
@@ -184,9 +184,9 @@ module _ (t : JoinedParts) (kept : PartsKept t) (d' : FrameTable) (f : Frame) (r
       (sets_set t.words k e) key_stands
       (λ q. key_paging q ∙ still q) key_valid
     where
-      still : (q : Key) → changed same_key (paging_of t.table (stands_of (owners t.table) t.words)) k (is_paging d' (held_by (owned_by (owners d') k) e)) q ≡ paging_of t.table (stands_of (owners t.table) t.words) q
-      still q = by_key q k (λ b. cond b (is_paging d' (held_by (owned_by (owners d') k) e)) (is_paging t.table (stands_of (owners t.table) t.words q))) (λ _. is_paging t.table (stands_of (owners t.table) t.words q))
-          (λ s. here ∙ ap (λ (j : Key). is_paging t.table (stands_of (owners t.table) t.words j)) (sym s)) (λ n. refl)
+      still : (q : Key) → changed same_key (paging_of t.table (stands_of (owners t.table) t.words)) k (is_of_paging_file d' (held_by (owned_by (owners d') k) e)) q ≡ paging_of t.table (stands_of (owners t.table) t.words) q
+      still q = by_key q k (λ b. cond b (is_of_paging_file d' (held_by (owned_by (owners d') k) e)) (is_of_paging_file t.table (stands_of (owners t.table) t.words q))) (λ _. is_of_paging_file t.table (stands_of (owners t.table) t.words q))
+          (λ s. here ∙ ap (λ (j : Key). is_of_paging_file t.table (stands_of (owners t.table) t.words j)) (sym s)) (λ n. refl)
 
   pub key_step : (x : Move) → IsLegal x (life_in t) → (n' : LineOf) (bytes' : List (Option (List ℕ))) (free' : List Bool) (flight' : FlightOf) (own' : Option Frame) (names' : Place → Option Key)
       → life_of n' d' free' (with_entry t.words k e) (requests flight'.frames own') ≡ after_move (life_in t) x

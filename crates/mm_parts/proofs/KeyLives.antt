@@ -14,8 +14,8 @@ use Rattle.mm_move_laws.proofs.{read_has, kept_inside, dead_is, owner_passes, re
 use Rattle.mm_page_tables.specs.{Entry, Aside, key_entry, with_entry, is_valid_entry, is_there, is_aside, keeps_places, place_from, bare, aside_or}
 use Rattle.mm_page_tables.specs.{with_aside, valid_frame}
 use Rattle.mm_parts.specs.{JoinedParts, LineOf, owners, owned_by, held_by, names_of, life_in, shown_of, requests_in, is_aside_entry, PartsKept}
-use Rattle.mm_parts.specs.{parts_after, names_after_drop, table_released, slot_released, IsReleased, stands_of, valid_of, named_by, is_paging}
-use Rattle.mm_parts.specs.{life_of, WordsKept, names_other, aside_added, aside_after_add, IsClear, HasHome, copy_place}
+use Rattle.mm_parts.specs.{parts_after, names_after_drop, table_released, slot_released, IsReleased, stands_of, valid_of, named_by, is_of_paging_file}
+use Rattle.mm_parts.specs.{life_of, WordsKept, names_other, aside_added, aside_after_add, IsClear, HasEntry, copy_place}
 use Rattle.mm_parts.proofs.Stands.{same_life, sets_set, at_if, beside_or_not, if_either, in_table}
 use Rattle.mm_parts.proofs.Stands.{Rewrites, rewrites_by, waits_frame}
 use Rattle.mm_parts.proofs.Stands.{names_gone, names_none}
@@ -334,7 +334,7 @@ add_block_step t kept (Shared a' i') b legal =
     (record { machine = kept.line.machine; begun = kept.line.begun; blocks = length-set t.line.added b.0 true ∙ kept.line.blocks })
     refl refl kept.within.requesting refl kept.waits
   where
-    dead_unpaged : (d : FrameTable) (h : Held) → is_dead h ≡ true → is_paging d h ≡ false
+    dead_unpaged : (d : FrameTable) (h : Held) → is_dead h ≡ true → is_of_paging_file d h ≡ false
     dead_unpaged d held.Dead x = refl
     dead_unpaged d _ x = cc
 
@@ -386,7 +386,7 @@ module _ (t : JoinedParts) (kept : PartsKept t) (p : Pid) (v : Vpn) (legal : IsL
 
   aside_life : life_of (record t.line { paging_keys = t.line.paging_keys + 1 }) t.table t.free (with_aside t.words (place_from p v) entry.Zero) (requests_in t) ≡ after_move (life_in t) (move.Add (Private p v) None)
   aside_life = same_life (record t.line { paging_keys = t.line.paging_keys + 1 }) t.table t.free (requests_in t) _ _ _ _ _ _ _ _ (λ b. slice_index_or t.line.added b false) refl aside_stands
-      (λ q. ap (is_paging t.table) (aside_stands q) ∙ at_if (is_paging t.table) (same_key q (Private p v)) held.Zero (stands_of (owners t.table) t.words q)) (λ x. refl)
+      (λ q. ap (is_of_paging_file t.table) (aside_stands q) ∙ at_if (is_of_paging_file t.table) (same_key q (Private p v)) held.Zero (stands_of (owners t.table) t.words q)) (λ x. refl)
 
   pub add_aside_step : Step (record t { line = record t.line { paging_keys = t.line.paging_keys + 1 }; words = with_aside t.words (place_from p v) entry.Zero })
       (record (parts_after (shown_of t) (move.Add (Private p v) None)) { aside = aside_after_add (shown_of t).names (shown_of t).aside (Private p v) })
@@ -421,15 +421,15 @@ copy_alone t kept p v legal touch (inr x) = no_place t.words.aside x.1
 pub copy_none_aside : (t : JoinedParts) → PartsKept t → (k : Key) (place : Place) → copy_place k t.line.kind ≡ Some place → IsLegal (move.Add k None) (life_in t) → IsClear (shown_of t).life.kind (shown_of t).names (shown_of t).aside k → t.words.aside ≡ None
 copy_none_aside t kept k place e = copied t k place e (λ q x. IsLegal (move.Add q None) (life_in t) → IsClear (shown_of t).life.kind (shown_of t).names (shown_of t).aside q → t.words.aside ≡ None) (λ p v touch legal clear. copy_alone t kept p v legal touch clear)
 
-pub copy_step : (t : JoinedParts) → PartsKept t → (k : Key) (place : Place) → copy_place k t.line.kind ≡ Some place → IsLegal (move.Add k None) (life_in t) → HasHome (shown_of t).bound (shown_of t).areas k → IsClear (shown_of t).life.kind (shown_of t).names (shown_of t).aside k
+pub copy_step : (t : JoinedParts) → PartsKept t → (k : Key) (place : Place) → copy_place k t.line.kind ≡ Some place → IsLegal (move.Add k None) (life_in t) → HasEntry (shown_of t).bound (shown_of t).areas k → IsClear (shown_of t).life.kind (shown_of t).names (shown_of t).aside k
     → Step (record t { line = record t.line { paging_keys = t.line.paging_keys + 1 }; words = with_aside t.words place entry.Zero }) (record (parts_after (shown_of t) (move.Add k None)) { aside = aside_after_add (shown_of t).names (shown_of t).aside k })
 copy_step t kept k place e = copied t k place e
-    (λ q x. IsLegal (move.Add q None) (life_in t) → HasHome (shown_of t).bound (shown_of t).areas q → IsClear (shown_of t).life.kind (shown_of t).names (shown_of t).aside q
+    (λ q x. IsLegal (move.Add q None) (life_in t) → HasEntry (shown_of t).bound (shown_of t).areas q → IsClear (shown_of t).life.kind (shown_of t).names (shown_of t).aside q
     → Step (record t { line = record t.line { paging_keys = t.line.paging_keys + 1 }; words = with_aside t.words x entry.Zero }) (record (parts_after (shown_of t) (move.Add q None)) { aside = aside_after_add (shown_of t).names (shown_of t).aside q }))
     (λ p v touch legal home clear. add_aside_step t kept p v legal touch (copy_alone t kept p v legal touch clear) home)
 
-pub copy_bound : (t : JoinedParts) (k : Key) (place : Place) → copy_place k t.line.kind ≡ Some place → HasHome (shown_of t).bound (shown_of t).areas k → t.words.bound place ≡ true
-copy_bound t k place e = copied t k place e (λ q x. HasHome (shown_of t).bound (shown_of t).areas q → t.words.bound x ≡ true) (λ p v touch home. home)
+pub copy_bound : (t : JoinedParts) (k : Key) (place : Place) → copy_place k t.line.kind ≡ Some place → HasEntry (shown_of t).bound (shown_of t).areas k → t.words.bound place ≡ true
+copy_bound t k place e = copied t k place e (λ q x. HasEntry (shown_of t).bound (shown_of t).areas q → t.words.bound x ≡ true) (λ p v touch home. home)
 
 -- a key that does not stand beside the tables comes to be where no page is named
 pub set_names : (t : JoinedParts) (k : Key) → copy_place k t.line.kind ≡ None → IsClear (shown_of t).life.kind (shown_of t).names (shown_of t).aside k → NamesNone t k

@@ -12,7 +12,7 @@ use Rattle.mm_move_laws.proofs.{set_more, reached_by, reached_start, reached_nex
 use Rattle.mm_page_tables.specs.{Aside, WordsOf, key_entry, no_words, Entry, own_word, aside_or, place_from, valid_frame, changed_in, is_valid_entry, pages}
 use Rattle.mm_page_tables.specs.{ages_in, GoesBehind, IsOldestOf, NoneBehind}
 use Rattle.mm_parts.specs.{JoinedParts, life_in, shown_of, requests_in, PartsKept, WithinLine, parts_after, IsPlainLine, words_begun, CanBeginSet}
-use Rattle.mm_parts.specs.{more_slots, owners, stands_of, is_paging, first_parts, started_parts, first_kind, first_move, owned_by, held_by, valid_of}
+use Rattle.mm_parts.specs.{machine_grown, owners, stands_of, is_of_paging_file, first_parts, started_parts, first_kind, first_move, owned_by, held_by, valid_of}
 use Rattle.mm_parts.specs.{named_by, names_of, life_of, WordsKept, after_page}
 use Rattle.mm_parts.proofs.Keeping.{Step, known}
 use Rattle.std.proofs.lemmas.List.{length-replicate}
@@ -85,7 +85,7 @@ at_step t kept n k legal plain own aside =
 
 -- ---- the paging file grows
 
-pub grow_machine : (t : JoinedParts) → PartsKept t → (n count : ℕ) → IsLegal (move.At n (kind.Grow count)) (life_in t) → IsMachine (more_slots t.line.machine count)
+pub grow_machine : (t : JoinedParts) → PartsKept t → (n count : ℕ) → IsLegal (move.At n (kind.Grow count)) (life_in t) → IsMachine (machine_grown t.line.machine count)
 grow_machine t kept n count legal =
     let m = kept.line.machine in
     let k = (next_line t n (kind.Grow count) legal).kind_is in
@@ -93,7 +93,7 @@ grow_machine t kept n count legal =
     assumption (most, m)
 
 pub grow_step : (t : JoinedParts) → PartsKept t → (n count : ℕ) → IsLegal (move.At n (kind.Grow count)) (life_in t) → t.own ≡ None → (shown_of t).aside ≡ None
-    → Step (record t { line = record t.line { machine = more_slots t.line.machine count; line = n; kind = kind.Grow count }; free = t.free ++ replicate count true }) (parts_after (shown_of t) (move.At n (kind.Grow count)))
+    → Step (record t { line = record t.line { machine = machine_grown t.line.machine count; line = n; kind = kind.Grow count }; free = t.free ++ replicate count true }) (parts_after (shown_of t) (move.At n (kind.Grow count)))
 grow_step t kept n count legal own aside =
     record {
       kept = assumption (
@@ -144,7 +144,7 @@ none_added _ _ = cc
 life_at_start : (m : MachineOf) → life_in (started_parts m) ≡ after_move unstarted (first_move m)
 life_at_start m =
     same_life (record { machine = m; line = 1; kind = first_kind m; paging_keys = 0; added = replicate m.blocks false }) (free_table m.frames) (replicate m.slots true) [] _ _ _ _ _ _ _ _ (λ b. slice_index_or (replicate m.blocks false) b false)
-    refl (dead_at_start m) (λ k. ap (is_paging (free_table m.frames)) (dead_at_start m k)) (λ p. refl)
+    refl (dead_at_start m) (λ k. ap (is_of_paging_file (free_table m.frames)) (dead_at_start m k)) (λ p. refl)
     ∙ (λ i. record (after_move unstarted (first_move m)) { added = λ b. none_added m.blocks b i })
 
 no_set : (pid : ℕ) (s : ResidentSet) → set_in [] pid ≡ Some s → (1 ≤ s.max) × (s.max ≤ 65536)
@@ -262,7 +262,7 @@ module _ (t : JoinedParts) (kept : PartsKept t) (pid : ℕ) (r : Range) (g : Giv
   given_stands (Shared a i) = refl
 
   given_life : life_of t.line t.table t.free (record t.words { bound = changed_in t.words.bound pid r false; at = changed_in t.words.at pid r entry.Empty }) (requests_in t) ≡ life_in t
-  given_life = same_life t.line t.table t.free (requests_in t) _ _ _ _ _ _ _ _ (λ b. slice_index_or t.line.added b false) refl given_stands (λ k. ap (is_paging t.table) (given_stands k))
+  given_life = same_life t.line t.table t.free (requests_in t) _ _ _ _ _ _ _ _ (λ b. slice_index_or t.line.added b false) refl given_stands (λ k. ap (is_of_paging_file t.table) (given_stands k))
       (λ x. elim (at_cases x) [ inl e ↦ ap valid_frame e | inr h ↦ ap valid_frame h.0 ∙ sym h.1 ])
 
   word_given : (k : Key) (e : Entry) → key_entry (record t.words { bound = changed_in t.words.bound pid r false; at = changed_in t.words.at pid r entry.Empty }) k ≡ e → (key_entry t.words k ≡ e) ⊎ (entry.Empty ≡ e)

@@ -11,7 +11,7 @@ use Rattle.mm_move_rules.specs.{with_resident, resident_by, IsLegal, after_move,
 use Rattle.mm_move_laws.proofs.{set_here, set_else, kept_inside, reached_by, key_or_not, same_key-self, same_place-self, same_place-true}
 use Rattle.mm_page_tables.specs.{Entry, Aside, WordsOf, key_entry, own_word, aside_or, is_aside, without_aside, made_valid, made_invalid, place_from}
 use Rattle.mm_page_tables.specs.{valid_frame, is_valid_entry, changed_at}
-use Rattle.mm_parts.specs.{JoinedParts, Owners, owners, owned_by, held_by, stands_of, valid_of, named_by, names_of, is_paging, life_of, life_in}
+use Rattle.mm_parts.specs.{JoinedParts, Owners, owners, owned_by, held_by, stands_of, valid_of, named_by, names_of, is_of_paging_file, life_of, life_in}
 use Rattle.mm_parts.specs.{shown_of, requests_in, WordsKept, names_other, PartsKept, parts_after, left_by, names_after_map, has_owner, is_aside_entry}
 use Rattle.mm_parts.specs.{MayMap, words_named, words_left}
 use Rattle.mm_parts.proofs.Stands.{Beside, same_life, at_if, by_place, if_either, own_by, own_set, own_unset, not_valid, names_at, same_there}
@@ -97,7 +97,7 @@ module _ (t : JoinedParts) (kept : PartsKept t) (f : Frame) (place : Place) (leg
   map_life = same_life t.line (after_map t.table f.0) t.free (requests_in t) _ _ _ _ _ _ _ _ (λ b. slice_index_or t.line.added b false)
       refl
       (λ q. stands_frame t.table (after_map t.table f.0) f.0 (shared (record_at t.table f.0)) (record (made_valid t.words place f) { proto = proto' }) map_change refl q ∙ maps.stands q)
-      (λ q. paging_frame t.table (after_map t.table f.0) f.0 (shared (record_at t.table f.0)) (record (made_valid t.words place f) { proto = proto' }) map_change refl refl q ∙ ap (is_paging t.table) (maps.stands q))
+      (λ q. paging_frame t.table (after_map t.table f.0) f.0 (shared (record_at t.table f.0)) (record (made_valid t.words place f) { proto = proto' }) map_change refl refl q ∙ ap (is_of_paging_file t.table) (maps.stands q))
       (λ p. at_if valid_frame (same_place p place) (entry.Valid f 0) (t.words.at p))
 
   made_before : (q : Key) (e : Entry) → key_entry (record (made_valid t.words place f) { proto = proto' }) q ≡ e → (key_entry t.words q ≡ e) ⊎ (entry.Valid f 0 ≡ e)
@@ -203,7 +203,7 @@ module _ (t : JoinedParts) (kept : PartsKept t) (f : Frame) (place : Place) (leg
       same_life t.line (after_unmap t.table f.0) t.free (requests_in t) _ _ _ _ _ _ _ _ (λ b. slice_index_or t.line.added b false)
       refl
       (λ q. stands_frame t.table (after_unmap t.table f.0) f.0 (unshared (record_at t.table f.0)) (record (made_invalid t.words place e) { proto = proto' }) unmap_change refl q ∙ unmaps.stands q)
-      (λ q. paging_frame t.table (after_unmap t.table f.0) f.0 (unshared (record_at t.table f.0)) (record (made_invalid t.words place e) { proto = proto' }) unmap_change refl refl q ∙ ap (is_paging t.table) (unmaps.stands q))
+      (λ q. paging_frame t.table (after_unmap t.table f.0) f.0 (unshared (record_at t.table f.0)) (record (made_invalid t.words place e) { proto = proto' }) unmap_change refl refl q ∙ ap (is_of_paging_file t.table) (unmaps.stands q))
       (λ p. at_if valid_frame (same_place p place) e (t.words.at p) ∙ ap (λ x. cond (same_place p place) x (valid_of t.words p)) (not_valid e unmaps.calm))
       ∙ sym (ap (λ o. after_unmap_at o (life_in t) place) unmaps.there)
 

@@ -10,8 +10,8 @@ use Rattle.mm_move_laws.specs.{is_backed, is_backing_for, is_home_for}
 use Rattle.mm_move_laws.proofs.PlaceCounts.{same_place-true, same_place-self}
 use Rattle.mm_pfn_database.specs.{has_block, FramesOf, standby_taken, free_put, emptied}
 use Rattle.mm_page_tables.specs.{Entry, Aside, key_entry, is_valid_entry, place_from, bare, aside_or, has_word, valid_frame}
-use Rattle.mm_parts.specs.{JoinedParts, owners, owned_by, held_by, stands_of, valid_of, is_paging, life_in, is_aside_entry, PartsKept, home_entry}
-use Rattle.mm_parts.specs.{entry_backing, front, has_owner, shown_of, HasHome, first_frame, is_private, is_own_page}
+use Rattle.mm_parts.specs.{JoinedParts, owners, owned_by, held_by, stands_of, valid_of, is_of_paging_file, life_in, is_aside_entry, PartsKept, home_entry}
+use Rattle.mm_parts.specs.{entry_backing, front, has_owner, shown_of, HasEntry, first_frame, is_private_owner, is_own_page}
 use Rattle.mm_parts.proofs.Keeping.{known}
 use Rattle.mm_parts.proofs.Stands.{at_place, is_used, held_same}
 use Rattle.mm_parts.proofs.KeyChanges.{is_resting}
@@ -87,7 +87,7 @@ pub home_held : (own : Frame → Bool) (b : Backing) → held_by own (home_entry
 home_held own (backing.Slot s) = refl
 home_held own _ = refl
 
-pub home_paging : (d : FrameTable) (own : Frame → Bool) (b : Backing) → is_paging d (held_by own (home_entry b)) ≡ not (has_block b)
+pub home_paging : (d : FrameTable) (own : Frame → Bool) (b : Backing) → is_of_paging_file d (held_by own (home_entry b)) ≡ not (has_block b)
 home_paging d own (backing.Slot s) = refl
 home_paging d own _ = refl
 
@@ -116,7 +116,7 @@ pub backing_held : (own : Frame → Bool) (e : Entry) → backing_of (held_by ow
 backing_held own (entry.Valid f n) = elim (own f) as (λ b. backing_of (if b then held.Frame f else held.Dead) ≡ backing.None) [ true ↦ refl | false ↦ refl ]
 backing_held own _ = refl
 
-pub stored_paging : (d d' : FrameTable) (h : Held) (f : Frame) → is_stored h ≡ true → (record_at d' f.0).backing ≡ backing_of h → is_paging d' (held.Frame f) ≡ is_paging d h
+pub stored_paging : (d d' : FrameTable) (h : Held) (f : Frame) → is_stored h ≡ true → (record_at d' f.0).backing ≡ backing_of h → is_of_paging_file d' (held.Frame f) ≡ is_of_paging_file d h
 stored_paging d d' (held.Slot s) f e b = ap (λ x. not (has_block x)) b
 stored_paging d d' (held.Block c) f e b = ap (λ x. not (has_block x)) b
 stored_paging d d' _ f e b = cc
@@ -136,7 +136,7 @@ own_backing t kept k f owner own =
 pub home_aside : (t : JoinedParts) → PartsKept t → (k : Key) (f : Frame) → (record_at t.table f.0).owner ≡ Some k → is_shared k ≡ false → is_aside_entry (home_entry (record_at t.table f.0).backing) ≡ true
 home_aside t kept k f owner own = home_own (record_at t.table f.0).backing (own_backing t kept k f owner own)
 
-away_used : (d : FrameTable) (own : Frame → Bool) (e : Entry) → is_away e ≡ true → is_home_for (is_paging d (held_by own e)) (held_by own e) ≡ true → is_paging d (held_by own e) ≡ true → is_used e ≡ true
+away_used : (d : FrameTable) (own : Frame → Bool) (e : Entry) → is_away e ≡ true → is_home_for (is_of_paging_file d (held_by own e)) (held_by own e) ≡ true → is_of_paging_file d (held_by own e) ≡ true → is_used e ≡ true
 away_used d own (entry.Paged s) h k p = refl
 away_used d own _ h k p = cc
 
@@ -194,13 +194,13 @@ bare_valid e w f n told is = sym told ∙ ap bare is
 
 -- the frame of a valid entry of a private key is its own, exactly where its page is a private one
 own_by_page : (t : JoinedParts) → PartsKept t → (p : Pid) (v : Vpn) (f : Frame) → key_entry t.words (Private p v) ≡ entry.Valid f 0
-    → is_private (owners t.table f.0) ≡ has_owner (owners t.table f.0) (Private p v)
+    → is_private_owner (owners t.table f.0) ≡ has_owner (owners t.table f.0) (Private p v)
 own_by_page t kept p v f word = by (owners t.table f.0) refl
   where
     there : valid_of t.words (place_from p v) ≡ Some f
     there = at_place t.words (place_from p v) f 0 kept.words.beside word
 
-    by : (o : Option Key) → owners t.table f.0 ≡ o → is_private o ≡ has_owner o (Private p v)
+    by : (o : Option Key) → owners t.table f.0 ≡ o → is_private_owner o ≡ has_owner o (Private p v)
     by (Some (Private q u)) e = sym ((known t kept).fits (place_from p v) f (Private q u) there e)
     by _ e = cc
 
@@ -232,9 +232,9 @@ told_low t kept k e told f v = by e refl v
 
 -- ---- keys that have a word
 
-pub word_home : (t : JoinedParts) (k : Key) → has_word t.words k ≡ true → HasHome (shown_of t).bound (shown_of t).areas k
+pub word_home : (t : JoinedParts) (k : Key) → has_word t.words k ≡ true → HasEntry (shown_of t).bound (shown_of t).areas k
 word_home t (Private p v) h = h
-word_home t (Shared a i) h = elim (t.words.sizes a.0) as (λ o. t.words.sizes a.0 ≡ o → unwrap_or (option_map (λ n. nat_lt i n) o) false ≡ true → HasHome (shown_of t).bound (shown_of t).areas (Shared a i)) [
+word_home t (Shared a i) h = elim (t.words.sizes a.0) as (λ o. t.words.sizes a.0 ≡ o → unwrap_or (option_map (λ n. nat_lt i n) o) false ≡ true → HasEntry (shown_of t).bound (shown_of t).areas (Shared a i)) [
   | None ↦ λ e x. cc
   | Some n ↦ λ e x. (n, (e, ltb-true i n x))
 ] refl h

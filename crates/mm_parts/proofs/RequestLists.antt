@@ -10,7 +10,7 @@ use Rattle.mm_move_rules.specs.{FrameTable, record_at, is_read, without}
 use Rattle.mm_move_laws.specs.{one_if, times}
 use Rattle.mm_move_laws.proofs.Tallies.{tally-append, times_on, times-without_other}
 use Rattle.mm_move_laws.proofs.Lists.{without_append, without_none}
-use Rattle.mm_requests.specs.{FlightOf, is_in, ended, Waiting}
+use Rattle.mm_requests.specs.{FlightOf, is_requested, ended, Waiting}
 use Rattle.mm_requests.specs.declared.flights.Waiting.TheVariants as waiting
 use Rattle.mm_parts.specs.{requests, own_request, own_is, is_own_line, AreWaits, own_after, own_ended, flight_begun, flight_ended}
 use Rattle.mm_parts.proofs.Stands.{Rewrites}
@@ -50,29 +50,29 @@ ended_requests q own f ok once = elim (own_is own f) as (λ b. own_is own f ≡ 
   | false ↦ λ e. ap (requests (without f q.frames)) (own_other f own e) ∙ (sym (without_append f q.frames (own_request own) ∙ ap (λ zs. without f q.frames ++ zs) (own_stays f own e)))
 ] refl
 
-any_head : (f x : ℕ) (xs : List ℕ) (b : Bool) → (x == f) ≡ b → 1 ≤ times f (x ∷ xs) → (1 ≤ times f xs → is_in f xs ≡ true) → is_in f (x ∷ xs) ≡ true
+any_head : (f x : ℕ) (xs : List ℕ) (b : Bool) → (x == f) ≡ b → 1 ≤ times f (x ∷ xs) → (1 ≤ times f xs → is_requested f xs ≡ true) → is_requested f (x ∷ xs) ≡ true
 any_head f x xs true e h rest = rw e refl
 any_head f x xs false e h rest = rw e (rest (let one = ap one_if e in omega (arith, h, one)))
 
-pub any_in : (f : ℕ) (xs : List ℕ) → 1 ≤ times f xs → is_in f xs ≡ true
+pub any_in : (f : ℕ) (xs : List ℕ) → 1 ≤ times f xs → is_requested f xs ≡ true
 any_in f [] h = absurd (omega (arith, h))
 any_in f (x ∷ xs) h = any_head f x xs (x == f) refl h (any_in f xs)
 
-pub none_in : (f : ℕ) (xs : List ℕ) → times f xs ≡ 0 → is_in f xs ≡ false
-none_in f xs e = not_true (is_in f xs) (λ h. let some = times_on f xs h in omega (arith, some, e))
+pub none_in : (f : ℕ) (xs : List ℕ) → times f xs ≡ 0 → is_requested f xs ≡ false
+none_in f xs e = not_true (is_requested f xs) (λ h. let some = times_on f xs h in omega (arith, some, e))
 
 -- a request that is not the line's own is in flight
-pub in_flight : (f : ℕ) (own : Option Frame) (xs : List ℕ) → times f (requests xs own) ≡ 1 → own_is own f ≡ false → is_in f xs ≡ true
+pub in_flight : (f : ℕ) (own : Option Frame) (xs : List ℕ) → times f (requests xs own) ≡ 1 → own_is own f ≡ false → is_requested f xs ≡ true
 in_flight f own xs once n =
     let sum = times-append f xs (own_request own) in
     let none = own_times f own n in
     any_in f xs (omega (arith, once, sum, none))
 
-pub not_in_flight : (f : ℕ) (own : Option Frame) (xs : List ℕ) → times f (requests xs own) ≡ 0 → is_in f xs ≡ false
+pub not_in_flight : (f : ℕ) (own : Option Frame) (xs : List ℕ) → times f (requests xs own) ≡ 0 → is_requested f xs ≡ false
 not_in_flight f own xs none = let sum = times-append f xs (own_request own) in none_in f xs (omega (arith, none, sum))
 
 -- the line's own request is not in flight
-pub own_apart : (f : ℕ) (own : Option Frame) (xs : List ℕ) → times f (requests xs own) ≡ 1 → own_is own f ≡ true → is_in f xs ≡ false
+pub own_apart : (f : ℕ) (own : Option Frame) (xs : List ℕ) → times f (requests xs own) ≡ 1 → own_is own f ≡ true → is_requested f xs ≡ false
 own_apart f None xs once is = cc
 own_apart f (Some g) xs once is =
     let one = ap one_if is in
@@ -126,10 +126,10 @@ ended_depth false q f ok = refl
 
 -- ---- waits
 
-in_pushed : (g f : ℕ) (xs : List ℕ) → is_in g xs ≡ true → is_in g (xs ++ f ∷ []) ≡ true
+in_pushed : (g f : ℕ) (xs : List ℕ) → is_requested g xs ≡ true → is_requested g (xs ++ f ∷ []) ≡ true
 in_pushed g f xs h = let some = times_on g xs h in let sum = times-append g xs (f ∷ []) in any_in g (xs ++ f ∷ []) (omega (arith, some, sum))
 
-in_without : (g f : ℕ) (xs : List ℕ) → g ≢ f → is_in g xs ≡ true → is_in g (without f xs) ≡ true
+in_without : (g f : ℕ) (xs : List ℕ) → g ≢ f → is_requested g xs ≡ true → is_requested g (without f xs) ≡ true
 in_without g f xs n h = let some = times_on g xs h in let same = times-without_other f g xs n in any_in g (without f xs) (omega (arith, some, same))
 
 pub waits_begun : (b : Bool) (d : FrameTable) (q : FlightOf) (f : Frame) → AreWaits d q → AreWaits d (flight_begun b q f)
@@ -174,7 +174,7 @@ pub ended_waits : (d : FrameTable) (q : FlightOf) (own : Option Frame) (f : ℕ)
 ended_waits d q own f ok waits once = elim (own_is own f) as (λ b. own_is own f ≡ b → (flight_ended b q f ok).waits ≡ map (ended f ok) q.waits) [
   | false ↦ λ e. refl
   | true ↦ λ e. sym (calm_waits f ok q.waits (λ t g x same.
-      let here : is_in f q.frames ≡ true = ap (λ (y : ℕ). is_in y q.frames) (sym same) ∙ (waits t g x).0 in
+      let here : is_requested f q.frames ≡ true = ap (λ (y : ℕ). is_requested y q.frames) (sym same) ∙ (waits t g x).0 in
       let bad : true ≡ false = sym here ∙ own_apart f own q.frames once e in cc))
 ] refl
 
@@ -191,6 +191,6 @@ waits_ended d d' q own f r ok change waits once = λ t g x.
     let left : slice_get (map (ended f ok) q.waits) t ≡ Some (waiting.For g) = ap (λ ws. slice_get ws t) (sym (ended_waits d q own f ok waits once)) ∙ x in
     let s = still_at f ok q.waits t g left in
     let was = waits t g s.0 in (
-      elim (own_is own f) as (λ b. is_in g.0 (flight_ended b q f ok).frames ≡ true) [ true ↦ was.0 | false ↦ in_without g.0 f q.frames s.1 was.0 ],
+      elim (own_is own f) as (λ b. is_requested g.0 (flight_ended b q f ok).frames ≡ true) [ true ↦ was.0 | false ↦ in_without g.0 f q.frames s.1 was.0 ],
       ap (λ (y : Record). is_read y.request) (change.elsewhere g.0 s.1) ∙ was.1,
     )

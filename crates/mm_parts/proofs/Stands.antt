@@ -12,7 +12,7 @@ use Rattle.mm_move_laws.proofs.PlaceCounts.{place_or_not, same_place-true}
 use Rattle.mm_pfn_database.specs.{has_block}
 use Rattle.mm_page_tables.specs.{Entry, Aside, WordsOf, place_from, is_aside, aside_or, own_word, key_entry, is_valid_entry, valid_frame, with_own}
 use Rattle.mm_page_tables.specs.{with_entry, keeps_places}
-use Rattle.mm_parts.specs.{Owners, has_owner, held_by, owned_by, stands_of, valid_of, is_paging, LineOf, is_aside_entry, named_by, names_of}
+use Rattle.mm_parts.specs.{Owners, has_owner, held_by, owned_by, stands_of, valid_of, is_of_paging_file, LineOf, is_aside_entry, named_by, names_of}
 use Rattle.mm_parts.specs.{names_given, owners, paging_of, life_of, WordsKept, AreWaits}
 use Rattle.mm_types.proofs.Cells.{same_or_not}
 use Rattle.mm_move_laws.specs.{Fit}
@@ -142,7 +142,7 @@ stands_owner o p w beside same (Shared a i) = held_same (λ _. true) (λ _. true
 
 -- ---- page-file keys
 
-pub paging_at : (d d' : FrameTable) (h : Held) → ((f : Frame) → h ≡ held.Frame f → has_block (record_at d' f.0).backing ≡ has_block (record_at d f.0).backing) → is_paging d' h ≡ is_paging d h
+pub paging_at : (d d' : FrameTable) (h : Held) → ((f : Frame) → h ≡ held.Frame f → has_block (record_at d' f.0).backing ≡ has_block (record_at d f.0).backing) → is_of_paging_file d' h ≡ is_of_paging_file d h
 paging_at d d' (held.Frame f) same = ap not (same f refl)
 paging_at d d' _ same = refl
 
@@ -265,7 +265,7 @@ module _ (d d' : FrameTable) (f : ℕ) (r : Record) (w : WordsOf) (change : Rewr
   stands_frame k = ap (λ o. stands_of o w k) same_owners
 
   pub paging_frame : has_block r.backing ≡ has_block (record_at d f).backing → (k : Key) → paging_of d' (stands_of (owners d') w) k ≡ paging_of d (stands_of (owners d) w) k
-  paging_frame blocks k = ap (is_paging d') (stands_frame k) ∙ paging_at d d' (stands_of (owners d) w k) (λ g e. stays (λ (x : Record). has_block x.backing) d d' f r change blocks g.0)
+  paging_frame blocks k = ap (is_of_paging_file d') (stands_frame k) ∙ paging_at d d' (stands_of (owners d) w k) (λ g e. stays (λ (x : Record). has_block x.backing) d d' f r change blocks g.0)
 
   pub words_frame : r.shares ≡ (record_at d f).shares → WordsKept d w → WordsKept d' w
   words_frame shares kept =
@@ -304,7 +304,7 @@ life_quiet n d d' free free' w flight flight' f r facts change quiet =
     same_life n d' free' flight' w.sets w.sets _ _ _ _ (valid_of w) (valid_of w) (λ b. slice_index_or n.added b false)
     refl
     (stands_frame d d' f r w change quiet.owner)
-    (λ q. ap (is_paging d') (stands_frame d d' f r w change quiet.owner q) ∙ paging_at d d' (stands_of (owners d) w q) (λ g e. elim (same_or_not g.0 f) [
+    (λ q. ap (is_of_paging_file d') (stands_frame d d' f r w change quiet.owner q) ∙ paging_at d d' (stands_of (owners d) w q) (λ g e. elim (same_or_not g.0 f) [
       | inl s ↦ ap (λ (x : ℕ). has_block (record_at d' x).backing) s ∙ ap (λ (x : Record). has_block x.backing) change.here
           ∙ quiet.blocks q (ap (λ (x : ℕ). (record_at d x).owner) (sym s) ∙ facts.owner q g e)
           ∙ sym (ap (λ (x : ℕ). has_block (record_at d x).backing) s)

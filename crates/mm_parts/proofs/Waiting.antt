@@ -9,7 +9,7 @@ use Rattle.mm_types.proofs.{same_or_not, set_cases, get_set_same, get_set_other,
 use Rattle.mm_types.specs.{Frame}
 use Rattle.mm_move_rules.specs.{record_at, is_read, has_request, changed, ForFrame, Ended, ended_by}
 use Rattle.mm_move_laws.specs.{one_if, times}
-use Rattle.mm_requests.specs.{is_in, place_in, ended, Waiting}
+use Rattle.mm_requests.specs.{is_requested, place_in, ended, Waiting}
 use Rattle.mm_requests.specs.declared.flights.Waiting.TheVariants as waiting
 use Rattle.mm_parts.specs.{JoinedParts, shown_of, requests, own_request, own_is, PartsKept, AreWaits, wait_as_walked, walked_or, waits_of}
 use Rattle.mm_parts.proofs.Keeping.{Step, known}
@@ -31,12 +31,12 @@ own_once f None h = cc
 own_once f (Some g) h = let one = ap one_if h in omega (arith, one)
 
 -- the line's own request is the last
-pub place_last : (f : ℕ) (xs : List ℕ) (own : Option Frame) → own_is own f ≡ true → is_in f xs ≡ false → Some (length xs + 1) ≡ place_in f (requests xs own)
+pub place_last : (f : ℕ) (xs : List ℕ) (own : Option Frame) → own_is own f ≡ true → is_requested f xs ≡ false → Some (length xs + 1) ≡ place_in f (requests xs own)
 place_last f xs None own none = cc
 place_last f xs (Some g) own none = sym ((ap (option_map (λ i. i + 1)) (position_from-zero (λ x. x == f) (xs ++ g.0 ∷ []))) ∙ ap (option_map (λ i. i + 1)) (from_last (λ x. x == f) g.0 0 xs none own) ∙ ap Some (omega arith))
 
 -- the line's own request is not in flight
-pub own_alone : (t : JoinedParts) → PartsKept t → (f : ℕ) → own_is t.own f ≡ true → is_in f t.flight.frames ≡ false
+pub own_alone : (t : JoinedParts) → PartsKept t → (f : ℕ) → own_is t.own f ≡ true → is_requested f t.flight.frames ≡ false
 own_alone t kept f own =
     let once = ((known t kept).standing f).flight in
     let most = one_most (has_request (record_at t.table f).request) in
@@ -44,13 +44,13 @@ own_alone t kept f own =
     let some = own_once f t.own own in
     own_apart f t.own t.flight.frames (omega (arith, once, most, sum, some)) own
 
-pub read_flies : (t : JoinedParts) → PartsKept t → (f : ℕ) → is_read (record_at t.table f).request ≡ true → own_is t.own f ≡ false → is_in f t.flight.frames ≡ true
+pub read_flies : (t : JoinedParts) → PartsKept t → (f : ℕ) → is_read (record_at t.table f).request ≡ true → own_is t.own f ≡ false → is_requested f t.flight.frames ≡ true
 read_flies t kept f reads other = in_flight f t.own t.flight.frames (read_once t kept f reads) other
 
 -- ---- waits
 
 set_waits : (t : JoinedParts) → PartsKept t → (n : ℕ) (x : Waiting) → n < length t.flight.waits
-    → ((f : Frame) → x ≡ waiting.For f → (is_in f.0 t.flight.frames ≡ true) × (is_read (record_at t.table f.0).request ≡ true))
+    → ((f : Frame) → x ≡ waiting.For f → (is_requested f.0 t.flight.frames ≡ true) × (is_read (record_at t.table f.0).request ≡ true))
     → AreWaits t.table (record t.flight { waits = slice_set t.flight.waits n x })
 set_waits t kept n x within new u f e = elim (set_cases t.flight.waits n u x (waiting.For f) within e) [
   | inl here ↦ new f here.1
@@ -58,18 +58,18 @@ set_waits t kept n x within new u f e = elim (set_cases t.flight.waits n u x (wa
 ]
 
 pub wait_step : (t : JoinedParts) → PartsKept t → (n : ℕ) (x : Waiting) → n < length t.flight.waits
-    → ((f : Frame) → x ≡ waiting.For f → (is_in f.0 t.flight.frames ≡ true) × (is_read (record_at t.table f.0).request ≡ true))
+    → ((f : Frame) → x ≡ waiting.For f → (is_requested f.0 t.flight.frames ≡ true) × (is_read (record_at t.table f.0).request ≡ true))
     → Step (record t { flight = record t.flight { waits = slice_set t.flight.waits n x } }) (record (shown_of t) { waits = slice_set t.flight.waits n x })
 wait_step t kept n x within new = record { kept = assumption (set_waits t kept n x within new); shown = refl }
 
 -- what a wait for a read is
 pub new_wait : (t : JoinedParts) → PartsKept t → (f g : Frame) → is_read (record_at t.table f.0).request ≡ true → own_is t.own f.0 ≡ false → waiting.For f ≡ waiting.For g
-    → (is_in g.0 t.flight.frames ≡ true) × (is_read (record_at t.table g.0).request ≡ true)
+    → (is_requested g.0 t.flight.frames ≡ true) × (is_read (record_at t.table g.0).request ≡ true)
 new_wait t kept f g reads other e =
     let same : f ≡ g = cc in
-    subst (λ (h : Frame). (is_in h.0 t.flight.frames ≡ true) × (is_read (record_at t.table h.0).request ≡ true)) same (read_flies t kept f.0 reads other, reads)
+    subst (λ (h : Frame). (is_requested h.0 t.flight.frames ≡ true) × (is_read (record_at t.table h.0).request ≡ true)) same (read_flies t kept f.0 reads other, reads)
 
-pub no_wait : (t : JoinedParts) (f : Frame) → waiting.Nothing ≡ waiting.For f → (is_in f.0 t.flight.frames ≡ true) × (is_read (record_at t.table f.0).request ≡ true)
+pub no_wait : (t : JoinedParts) (f : Frame) → waiting.Nothing ≡ waiting.For f → (is_requested f.0 t.flight.frames ≡ true) × (is_read (record_at t.table f.0).request ≡ true)
 no_wait t f e = cc
 
 pub waits_set : (ws : List Waiting) (n : ℕ) (x : Waiting) → n < length ws → (u : ℕ) → waits_of (slice_set ws n x) u ≡ changed ◌==◌ (waits_of ws) n (wait_as_walked x) u

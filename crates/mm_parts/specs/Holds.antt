@@ -7,7 +7,7 @@ use Rattle.mm_move_rules.specs.{ResidentSet, record_at, is_read, is_write, slot_
 use Rattle.mm_move_laws.specs.{ReachedByMoves, is_backed, block_held, IsAdded, is_home_for, is_backing_for}
 use Rattle.mm_requests.specs.declared.flights.Waiting.TheVariants as waiting
 use Rattle.mm_parts.specs.Shown.{PartsOf, is_own_line, own_is}
-use Rattle.mm_parts.specs.Moves.{HasHome}
+use Rattle.mm_parts.specs.Moves.{HasEntry}
 
 -- a process has a working set, of 1 to 65,536 pages at most, and no more than that are valid
 pub record HasSet (l : FrameLife) (pid : ℕ) : Type 0 where
@@ -34,7 +34,7 @@ pub record LinesHold (s : PartsOf) : Type 0 where
 
 pub record PagesHold (s : PartsOf) : Type 0 where
   -- a live key has a word
-  pub home : (k : Key) → is_live s.life k ≡ true → HasHome s.bound s.areas k
+  pub home : (k : Key) → is_live s.life k ≡ true → HasEntry s.bound s.areas k
   -- a key stands in the frame that has it
   pub owner : (k : Key) (f : Frame) → s.life.stands k ≡ held.Frame f →
       (record_at s.life.frames f.0).owner ≡ Some k

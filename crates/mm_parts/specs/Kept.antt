@@ -3,7 +3,7 @@ use Rattle.std.specs.Prelude.{◌≡◌, ◌≤◌, ◌<◌, ◌^◌, ℕ, true,
 use Rattle.mm_types.specs.{end_of_user_pages, IsMachine, Frame, Place, LineKind}
 use Rattle.mm_move_rules.specs.{ResidentSet, FrameTable, record_at, is_read, set_in, is_touch}
 use Rattle.mm_move_laws.specs.{ReachedByMoves}
-use Rattle.mm_requests.specs.{FlightOf, is_in}
+use Rattle.mm_requests.specs.{FlightOf, is_requested}
 use Rattle.mm_requests.specs.declared.flights.Waiting.TheVariants as waiting
 use Rattle.mm_page_tables.specs.{WordsOf}
 use Rattle.mm_parts.specs.Shown.{JoinedParts, LineOf, life_in, is_own_line}
@@ -12,7 +12,7 @@ use Rattle.mm_parts.specs.Words.{WordsKept}
 -- a thread waits for reads that are in flight alone
 abbrev pub AreWaits : FrameTable → FlightOf → Type 0
 AreWaits d q = (t : ℕ) (f : Frame) → slice_get q.waits t ≡ Some (waiting.For f) →
-    (is_in f.0 q.frames ≡ true) × (is_read (record_at d f.0).request ≡ true)
+    (is_requested f.0 q.frames ≡ true) × (is_read (record_at d f.0).request ≡ true)
 
 -- the numbers are in range, and a line has begun
 pub record LineKept (n : LineOf) : Type 0 where

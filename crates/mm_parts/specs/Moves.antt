@@ -30,9 +30,9 @@ abbrev pub front_for_read : FrameLife → Frame
 front_for_read l = front_or l.frames.free l.frames.zeroed
 
 -- the lowest free slot
-abbrev pub lowest_free : List Bool → ℕ
-lowest_free [] = 0
-lowest_free (free ∷ rest) = if free then 0 else lowest_free rest + 1
+abbrev pub lowest_free_slot : List Bool → ℕ
+lowest_free_slot [] = 0
+lowest_free_slot (free ∷ rest) = if free then 0 else lowest_free_slot rest + 1
 
 -- a page is written to the block that backs its frame, else to the lowest free slot
 abbrev pub goes_to : Backing → ℕ → Stored
@@ -41,7 +41,7 @@ goes_to (backing.Slot b) s = stored.Slot (record { 0 = s })
 goes_to (backing.Block b) s = stored.Block b
 
 abbrev pub write_target : FrameLife → Frame → Stored
-write_target l f = goes_to (record_at l.frames f.0).backing (lowest_free l.free_slots)
+write_target l f = goes_to (record_at l.frames f.0).backing (lowest_free_slot l.free_slots)
 
 -- the move with which a read, or a write, ends
 abbrev pub end_of_read : Bool → Frame → Move
@@ -121,9 +121,9 @@ flight_ended own q f ok = if own then q else record q {
 -- ---- keys
 
 -- the key has a word: its place is bound, or its index is one of an open area
-abbrev pub HasHome : (Place → Bool) → (ℕ → Option ℕ) → Key → Type 0
-HasHome bound areas (Private p v) = bound (record { pid = p; vpn = v }) ≡ true
-HasHome bound areas (Shared a i) = (n : ℕ) × ((areas a.0 ≡ Some n) × (i < n))
+abbrev pub HasEntry : (Place → Bool) → (ℕ → Option ℕ) → Key → Type 0
+HasEntry bound areas (Private p v) = bound (record { pid = p; vpn = v }) ≡ true
+HasEntry bound areas (Shared a i) = (n : ℕ) × ((areas a.0 ≡ Some n) × (i < n))
 
 -- a private key comes to be at a place that names none, or in an access beside the tables, where
 -- nothing stands there

@@ -11,15 +11,15 @@ abbrev pub first_frame : List ℕ → Option Frame
 first_frame [] = None
 first_frame (x ∷ xs) = Some (record { 0 = x })
 
-abbrev pub is_private : Option Key → Bool
-is_private None = false
-is_private (Some (Private p v)) = true
-is_private (Some (Shared a i)) = false
+abbrev pub is_private_owner : Option Key → Bool
+is_private_owner None = false
+is_private_owner (Some (Private p v)) = true
+is_private_owner (Some (Shared a i)) = false
 
 -- A frame that the entry of a key is valid for is that of the key itself, by the frame's owner: the
 -- place of a private key may be valid for a shared page.
 abbrev pub is_own_page : Key → Option Key → Bool
-is_own_page (Private p v) owner = is_private owner
+is_own_page (Private p v) owner = is_private_owner owner
 is_own_page (Shared a i) owner = true
 
 -- ---- waits

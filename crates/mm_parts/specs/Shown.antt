@@ -42,15 +42,15 @@ abbrev pub valid_of : WordsOf → Place → Option Frame
 valid_of w place = valid_frame (w.at place)
 
 -- a live key is a page-file key where its bytes are on no block
-abbrev pub is_paging : FrameTable → Held → Bool
-is_paging d (held.Frame f) = not (has_block (record_at d f.0).backing)
-is_paging d (held.Slot s) = true
-is_paging d (held.Block b) = false
-is_paging d held.Zero = true
-is_paging d held.Dead = false
+abbrev pub is_of_paging_file : FrameTable → Held → Bool
+is_of_paging_file d (held.Frame f) = not (has_block (record_at d f.0).backing)
+is_of_paging_file d (held.Slot s) = true
+is_of_paging_file d (held.Block b) = false
+is_of_paging_file d held.Zero = true
+is_of_paging_file d held.Dead = false
 
 abbrev pub paging_of : FrameTable → (Key → Held) → Key → Bool
-paging_of d stands k = is_paging d (stands k)
+paging_of d stands k = is_of_paging_file d (stands k)
 
 -- a request that begins is the line's own in a plain access and in a call; else it stands in flight
 abbrev pub is_own_line : LineKind → Bool

@@ -49,5 +49,5 @@ started_parts m = record {
 }
 
 -- a machine with further slots
-abbrev pub more_slots : MachineOf → ℕ → MachineOf
-more_slots m n = record m { slots = m.slots + n }
+abbrev pub machine_grown : MachineOf → ℕ → MachineOf
+machine_grown m n = record m { slots = m.slots + n }

@@ -2,7 +2,7 @@ ghost use Rattle.std.specs.Prelude.{◌≡◌, ◌<◌, true, Some, length, None
 ghost use Rattle.mm_types.specs.{Frame};
 ghost use Rattle.mm_move_rules.specs.{record_at, set_of, is_at_max, is_above_min, IsOldest};
 ghost use Rattle.mm_page_tables.specs.{valid_frame, place_from};
-ghost use Rattle.mm_parts.specs.{held_by, HasHome, after_page, is_own_page};
+ghost use Rattle.mm_parts.specs.{held_by, HasEntry, after_page, is_own_page};
 ghost use Rattle.std.specs.Option.{ForSome};
 ghost use Rattle.mm_working_sets.specs.{IsNextFrom};
 ghost use Rattle.mm_frame_laws.specs.{IsNextPage, NoPageFollows};
@@ -86,7 +86,7 @@ impl Parts {
     /// Where the bytes of a key stand, or that it is not live. Its place is bound, or its index is
     /// one of an open area.
     pub fn stands(&self, key: Key) -> Held
-        requires { HasHome (shown_parts self.now).bound (shown_parts self.now).areas key }
+        requires { HasEntry (shown_parts self.now).bound (shown_parts self.now).areas key }
         ensures { result ≡ (shown_parts self.now).life.stands key }
     {
         let entry = self.words.word(key);

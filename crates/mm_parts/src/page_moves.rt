@@ -1,7 +1,7 @@
 ghost use Rattle.std.specs.Prelude.{◌≡◌, Some, None, option_map, true};
 ghost use Rattle.mm_move_rules.specs.{IsLegal, record_at, changed, same_place, key_of_place, is_shared, is_dead, owner_is};
 ghost use Rattle.mm_ram.specs.{page_at, zero_page, with_page};
-ghost use Rattle.mm_parts.specs.{front, parts_after, names_after_give, HasHome, IsClear, aside_after_add, names_after_drop, table_released};
+ghost use Rattle.mm_parts.specs.{front, parts_after, names_after_give, HasEntry, IsClear, aside_after_add, names_after_drop, table_released};
 ghost use Rattle.mm_parts.specs.{slot_released, IsReleased, copy_place, left_by, names_after_map, MayMap, CanName, words_named, CanLeave, words_left};
 ghost use Rattle.mm_pfn_database.specs.{FramesOf};
 ghost use Rattle.mm_page_tables.specs.{is_valid_entry};
@@ -148,7 +148,7 @@ impl Parts {
     /// stands beside the tables, since its place names the page that is copied.
     pub fn add_zero(&mut self, key: Key)
         requires legal { IsLegal (move.Add key None) (shown_parts self.old).life }
-        requires home { HasHome (shown_parts self.old).bound (shown_parts self.old).areas key }
+        requires home { HasEntry (shown_parts self.old).bound (shown_parts self.old).areas key }
         requires clear { IsClear (shown_parts self.old).life.kind (shown_parts self.old).names
             (shown_parts self.old).aside key }
         ensures made { shown_parts self.new ≡
@@ -167,7 +167,7 @@ impl Parts {
     /// A page of a file comes to be, on its block.
     pub fn add_block(&mut self, key: Key, b: Block)
         requires legal { IsLegal (move.Add key (Some b)) (shown_parts self.old).life }
-        requires home { HasHome (shown_parts self.old).bound (shown_parts self.old).areas key }
+        requires home { HasEntry (shown_parts self.old).bound (shown_parts self.old).areas key }
         ensures made { shown_parts self.new ≡ parts_after (shown_parts self.old)
             (move.Add key (Some b)) }
     {

@@ -6,7 +6,7 @@ ghost use Rattle.mm_ram.specs.{page_at};
 ghost use Rattle.mm_pfn_database.specs.{IsDirty, has_block};
 ghost use Rattle.mm_requests.specs.{ended};
 ghost use Rattle.mm_parts.specs.{parts_after, own_after, own_ended, front_or, front_for_read, end_of_read, write_end, write_target, CanBegin};
-ghost use Rattle.mm_parts.specs.{words_sent, CanSend, goes_to, lowest_free, slots_to};
+ghost use Rattle.mm_parts.specs.{words_sent, CanSend, goes_to, lowest_free_slot, slots_to};
 ghost use Rattle.mm_page_tables.specs.Shown as tables;
 ghost use Rattle.mm_slots.specs.{free_count};
 
@@ -54,7 +54,7 @@ fn send_home(words: &mut Words, owner: Option<Key>, backing: Backing)
 #[tactic(auto, using(crate::proofs::Conditions::lowest_is))]
 fn take_target(slots: &mut Slots, backing: Backing) -> Stored
     requires { has_block backing ≡ false → free_count slots.old.free ≢ 0 }
-    ensures to { result ≡ goes_to backing (lowest_free slots.old.free) }
+    ensures to { result ≡ goes_to backing (lowest_free_slot slots.old.free) }
     ensures slots { slots.new.free ≡ slots_to result slots.old.free }
 {
     match backing {

@@ -1,6 +1,6 @@
 ghost use Rattle.std.specs.Prelude.{◌≡◌, ◌<◌, Some, None, true, false, length, ◌+◌, ◌==◌, ℕ, option_map, slice_set};
 ghost use Rattle.mm_move_laws.specs.{times};
-ghost use Rattle.mm_requests.specs.{is_in, nth_oldest, place_in};
+ghost use Rattle.mm_requests.specs.{is_requested, nth_oldest, place_in};
 ghost use Rattle.mm_parts.specs.{requests, own_is, is_own_line, own_after, own_ended, flight_begun, flight_ended, waits_of};
 ghost use Rattle.mm_move_rules.specs.{record_at, is_read, changed, has_depth, Idle, ForFrame, wait_of as walked_wait};
 ghost use Rattle.mm_requests.specs.declared.flights.Waiting.TheVariants as waiting;
@@ -12,7 +12,7 @@ use mm_types::{Frame, LineKind, Tid, Wait};
 /// A request begins: the line's own in a plain access and in a call, else one in flight.
 pub(crate) fn begin_request(flight: &mut Flight, own: &mut Option<Frame>, kind: LineKind, f: Frame)
     requires fewer { is_own_line kind ≡ false → length flight.old.frames < flight.old.depth }
-    requires new { is_own_line kind ≡ false → is_in f.0 flight.old.frames ≡ false }
+    requires new { is_own_line kind ≡ false → is_requested f.0 flight.old.frames ≡ false }
     ensures flight { flight.new ≡ flight_begun (is_own_line kind) flight.old f }
     ensures own { own.new ≡ own_after kind own.old f }
 {

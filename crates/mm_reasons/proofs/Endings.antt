@@ -3,8 +3,9 @@ use Rattle.std.proofs.Common.{◌≡◌, ◌⊎◌, inl, inr, ℕ, ◌≤◌, �
 use Rattle.mm_types.specs.{Text, Appended, Rose, Event}
 use Rattle.mm_types.proofs.{appended_none}
 use Rattle.mm_io.specs.{Wrote}
-use Rattle.mm_names.specs.{Ending, script_of, ScriptOf, is_whole, Ends, most_lines, WasRead, IsWritten, IsRefusedFile, IsManyBytes, IsManyLines}
-use Rattle.mm_names.specs.{IsTorn, CameTo, names_status, spelled_script}
+use Rattle.mm_names.specs.{Ending, script_in, ScriptOf, is_whole, ScriptEnds, WasReadWhole, IsWritten, IsRefusedFile}
+use Rattle.mm_script.specs.{most_lines}
+use Rattle.mm_names.specs.{IsTooLong, IsTorn, CameTo, names_status, spelled_script}
 use Rattle.mm_names.specs.declared.endings.Ending.TheVariants as ending
 use Rattle.mm_names.proofs.{opens}
 use Rattle.mm_reasons.specs.{Form, Talked, NamesRan, RanTalk, RanAs}
@@ -15,8 +16,8 @@ use Rattle.mm_reasons.proofs.Sayings.{talked_none}
 pub never_both : {A : Type 0} (s : ScriptOf) → is_whole s ≡ true → is_whole s ≡ false → A
 never_both s h g = let bad : true ≡ false = sym h ∙ g in cc
 
-pub written_as : (left left' a b : Option Text) (text : Text) (s : ScriptOf) (o : Option (List Event)) → script_of text ≡ o
-    → WasRead left left' text → Ends o s → is_whole s ≡ true → s.lines ≤ most_lines → Wrote a b s.text false
+pub written_as : (left left' a b : Option Text) (text : Text) (s : ScriptOf) (o : Option (List Event)) → script_in text ≡ o
+    → WasReadWhole left left' text → ScriptEnds o s → is_whole s ≡ true → s.lines ≤ most_lines → Wrote a b s.text false
     → IsWritten left left' a b
 written_as left left' a b text s None is read ends h few w = never_both s h ends
 written_as left left' a b text s (Some es) is read ends h few w = record {
@@ -30,24 +31,24 @@ written_as left left' a b text s (Some es) is read ends h few w = record {
   written = subst (λ (t : Text). Appended a b t) (w.all refl ∙ ends.1.text) w.written;
 }
 
-pub written : (left left' a b : Option Text) (text : Text) (s : ScriptOf) → WasRead left left' text
-    → Ends (script_of text) s → is_whole s ≡ true → s.lines ≤ most_lines → Wrote a b s.text false
+pub written : (left left' a b : Option Text) (text : Text) (s : ScriptOf) → WasReadWhole left left' text
+    → ScriptEnds (script_in text) s → is_whole s ≡ true → s.lines ≤ most_lines → Wrote a b s.text false
     → IsWritten left left' a b
 written left left' a b text s read ends h few w =
-    written_as left left' a b text s (script_of text) refl read ends h few w
+    written_as left left' a b text s (script_in text) refl read ends h few w
 
-pub refused_as : (left left' a : Option Text) (text : Text) (s : ScriptOf) (o : Option (List Event)) → script_of text ≡ o
-    → WasRead left left' text → Ends o s → is_whole s ≡ false → IsRefusedFile left left' a a
+pub refused_as : (left left' a : Option Text) (text : Text) (s : ScriptOf) (o : Option (List Event)) → script_in text ≡ o
+    → WasReadWhole left left' text → ScriptEnds o s → is_whole s ≡ false → IsRefusedFile left left' a a
 refused_as left left' a text s None is read ends h = record { text = text; was_read = read; none = is; nothing = refl }
 refused_as left left' a text s (Some es) is read ends h = never_both s ends.0 h
 
-pub refused : (left left' a : Option Text) (text : Text) (s : ScriptOf) → WasRead left left' text
-    → Ends (script_of text) s → is_whole s ≡ false → IsRefusedFile left left' a a
-refused left left' a text s read ends h = refused_as left left' a text s (script_of text) refl read ends h
+pub refused : (left left' a : Option Text) (text : Text) (s : ScriptOf) → WasReadWhole left left' text
+    → ScriptEnds (script_in text) s → is_whole s ≡ false → IsRefusedFile left left' a a
+refused left left' a text s read ends h = refused_as left left' a text s (script_in text) refl read ends h
 
-pub many_as : (left left' a : Option Text) (text : Text) (s : ScriptOf) (o : Option (List Event)) → script_of text ≡ o
-    → WasRead left left' text → Ends o s → is_whole s ≡ true → most_lines < s.lines
-    → (IsManyBytes left left' ⊎ IsManyLines left left') × (a ≡ a)
+pub many_as : (left left' a : Option Text) (text : Text) (s : ScriptOf) (o : Option (List Event)) → script_in text ≡ o
+    → WasReadWhole left left' text → ScriptEnds o s → is_whole s ≡ true → most_lines < s.lines
+    → IsTooLong left left' × (a ≡ a)
 many_as left left' a text s None is read ends h many = never_both s h ends
 many_as left left' a text s (Some es) is read ends h many = (
   inr (record {
@@ -60,13 +61,13 @@ many_as left left' a text s (Some es) is read ends h many = (
   refl,
 )
 
-pub many : (left left' a : Option Text) (text : Text) (s : ScriptOf) → WasRead left left' text
-    → Ends (script_of text) s → is_whole s ≡ true → most_lines < s.lines
-    → (IsManyBytes left left' ⊎ IsManyLines left left') × (a ≡ a)
-many left left' a text s read ends h more = many_as left left' a text s (script_of text) refl read ends h more
+pub many : (left left' a : Option Text) (text : Text) (s : ScriptOf) → WasReadWhole left left' text
+    → ScriptEnds (script_in text) s → is_whole s ≡ true → most_lines < s.lines
+    → IsTooLong left left' × (a ≡ a)
+many left left' a text s read ends h more = many_as left left' a text s (script_in text) refl read ends h more
 
-torn_as : (left left' a b : Option Text) (text : Text) (s : ScriptOf) (o : Option (List Event)) → script_of text ≡ o
-    → WasRead left left' text → Ends o s → is_whole s ≡ true → Wrote a b s.text true → IsTorn left left' a b
+torn_as : (left left' a b : Option Text) (text : Text) (s : ScriptOf) (o : Option (List Event)) → script_in text ≡ o
+    → WasReadWhole left left' text → ScriptEnds o s → is_whole s ≡ true → Wrote a b s.text true → IsTorn left left' a b
 torn_as left left' a b text s None is read ends h w = never_both s h ends
 torn_as left left' a b text s (Some es) is read ends h w = record {
   text = text;
@@ -77,25 +78,31 @@ torn_as left left' a b text s (Some es) is read ends h w = record {
   written = w.written;
 }
 
-pub torn : (left left' a b : Option Text) (text : Text) (s : ScriptOf) → WasRead left left' text
-    → Ends (script_of text) s → is_whole s ≡ true → Wrote a b s.text true → IsTorn left left' a b
-torn left left' a b text s read ends h w = torn_as left left' a b text s (script_of text) refl read ends h w
+pub torn : (left left' a b : Option Text) (text : Text) (s : ScriptOf) → WasReadWhole left left' text
+    → ScriptEnds (script_in text) s → is_whole s ≡ true → Wrote a b s.text true → CameTo ending.OutFault left left' a b
+torn left left' a b text s read ends h w = inl (torn_as left left' a b text s (script_in text) refl read ends h w)
 
-pub torn_none : (left left' a : Option Text) (text : Text) → WasRead left left' text → IsTorn left left' a a
-torn_none left left' a text read = record {
+pub torn_none : (left left' a : Option Text) (text : Text) → WasReadWhole left left' text → CameTo ending.OutFault left left' a a
+torn_none left left' a text read = inl (record {
   text = text;
   was_read = read;
   front = [];
-  behind = spelled_script (script_of text);
+  behind = spelled_script (script_in text);
   whole = refl;
   written = appended_none a;
-}
+})
 
-pub told : (r e : Ending) (left left' a : Option Text) (x y : ℕ) (text : Text) → WasRead left left' text
+pub told : (r e : Ending) (left left' a : Option Text) (x y : ℕ) (text : Text) → WasReadWhole left left' text
     → (r ≡ e) ⊎ ((r ≡ ending.OutFault) × Rose x y) → CameTo e left left' a a → CameTo r left left' a a
 told r e left left' a x y text read (inl h) came = subst (λ (z : Ending). CameTo z left left' a a) (sym h) came
 told r e left left' a x y text read (inr h) came =
     subst (λ (z : Ending). CameTo z left left' a a) (sym h.0) (torn_none left left' a text read)
+
+-- a file that is too long is told of, or that could not be written
+pub told_long : (r : Ending) (left left' a : Option Text) (x y : ℕ) → (r ≡ ending.TooLong) ⊎ ((r ≡ ending.OutFault) × Rose x y)
+    → CameTo ending.TooLong left left' a a → CameTo r left left' a a
+told_long r left left' a x y (inl h) came = subst (λ (z : Ending). CameTo z left left' a a) (sym h) came
+told_long r left left' a x y (inr h) came = subst (λ (z : Ending). CameTo z left left' a a) (sym h.0) (inr came)
 
 pub ran : (e : Ending) (left left' a b : Option Text) (status : ℕ) → status ≡ names_status e → CameTo e left left' a b
     → NamesRan left left' a b status

@@ -6,7 +6,7 @@ use Rattle.std.proofs.lemmas.Slice.Eq.{bytes_eq-Decides}
 use Rattle.mm_types.specs.{Text}
 use Rattle.mm_arguments.specs.{Form, IsNamed, SaysNone, is_dashed}
 use Rattle.mm_reasons.specs.declared.forms.Form.TheVariants as form
-use Rattle.mm_reasons.specs.{form_named, form_of}
+use Rattle.mm_reasons.specs.{form_named, names_form}
 
 -- The forms `lines` and `talk`, without values.
 pub record AreForms (f g : Form) : Type 0 where
@@ -37,7 +37,7 @@ other_word f g w none are = go (bytes_eq w (codes "lines")) refl (bytes_eq w (co
 
 -- some words, of which none is a form
 pub is_none : {A : Type 0} (h : A → Text) (f g : Form) (xs : List A) → (length xs == 0) ≡ false
-    → SaysNone (f ∷ g ∷ []) (map h xs) → AreForms f g → None ≡ form_of (map h xs)
+    → SaysNone (f ∷ g ∷ []) (map h xs) → AreForms f g → None ≡ names_form (map h xs)
 is_none h f g [] some none are = let bad : true ≡ false = some in cc
 is_none h f g (x ∷ []) some none are = sym (other_word f g (h x) none are)
 is_none h f g (x ∷ y ∷ xs) some none are = refl

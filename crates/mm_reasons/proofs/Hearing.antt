@@ -4,12 +4,12 @@ use Rattle.std.proofs.lemmas.Bool.{eqb-true}
 use Rattle.std.proofs.lemmas.Bool.Decides.{nat_tests}
 use Rattle.mm_types.specs.{Text, Event}
 use Rattle.mm_types.proofs.{append_nil, parts, and_false}
-use Rattle.mm_names.specs.{NamesOf, meant, most_line, meant_by, or_else, tidy_of, placed_line, lines_from, lines_of, without_mark}
+use Rattle.mm_names.specs.{NamesOf, meant, most_line, meant_by, event_or, tidy_of, placed_line, written_lines_from, written_lines, without_mark}
 use Rattle.mm_names.specs.declared.meanings.Meaning.{Meaning}
 use Rattle.mm_names.specs.declared.meanings.Meaning.TheVariants as meaning
 use Rattle.mm_script.specs.{keyword_of, without_return, parse, word_as}
-use Rattle.mm_reasons.specs.{begun_after, ended_from, heard_before, heard_from, heard_of, HearingOf, hearing_after, marked_from, most_kept, names_after}
-use Rattle.mm_reasons.specs.{said_by_line, said_of, to_come, whole_line}
+use Rattle.mm_reasons.specs.{begun_after, ended_from, heard_before, heard_from, heard_of, HearingOf, hearing_after, marked_from, most_of_line_kept, names_after}
+use Rattle.mm_reasons.specs.{said_by_line, said_of, to_come, line_without_mark}
 
 -- ---- lines that mean nothing
 
@@ -20,7 +20,7 @@ too_long n h = grind (arith, nat_tests)
 long_means : (names : NamesOf) (line : Text) → most_line < length line → meant names line ≡ meaning.Wrong
 unfolding meant
 long_means names line h =
-    ap (λ (b : Bool). if b then or_else (parse line) (meant_by names (tidy_of (without_return line))) else meaning.Wrong)
+    ap (λ (b : Bool). if b then event_or (parse line) (meant_by names (tidy_of (without_return line))) else meaning.Wrong)
     (too_long (length line) h)
 
 blank_means : (names : NamesOf) → meant names [] ≡ meaning.Nothing
@@ -117,20 +117,20 @@ mark_once (a ∷ b ∷ c ∷ cs) = mark_by ((a == 0xEF) && (b == 0xBB) && (c == 
 -- ---- the end of a text ends its last line
 
 last_step : (t : Bool) (names : NamesOf) (b : Bool) (c : ℕ) (w cs cs' : Text)
-    → ((ns : NamesOf) (d : Bool) (v : Text) → heard_from ns d (ended_from v cs') ≡ heard_from ns d (lines_from v cs))
+    → ((ns : NamesOf) (d : Bool) (v : Text) → heard_from ns d (ended_from v cs') ≡ heard_from ns d (written_lines_from v cs))
     → heard_from names b (if t then w ∷ ended_from [] cs' else ended_from (w ++ c ∷ []) cs')
-    ≡ heard_from names b (if t then w ∷ lines_from [] cs else lines_from (w ++ c ∷ []) cs)
+    ≡ heard_from names b (if t then w ∷ written_lines_from [] cs else written_lines_from (w ++ c ∷ []) cs)
 last_step true names b c w cs cs' later =
     ap (λ (es : List Event). said_of (placed_line b (meant names w)) ++ es)
     (later (names_after names (meant names w)) (begun_after b (placed_line b (meant names w))) [])
 last_step false names b c w cs cs' later = later names b (w ++ c ∷ [])
 
-last_here : (names : NamesOf) (b : Bool) (w : Text) → heard_from names b (w ∷ []) ≡ heard_from names b (lines_from w [])
+last_here : (names : NamesOf) (b : Bool) (w : Text) → heard_from names b (w ∷ []) ≡ heard_from names b (written_lines_from w [])
 last_here names b [] = blank_line names b []
 last_here names b (c ∷ cs) = refl
 
 last_line : (cs : Text) (names : NamesOf) (b : Bool) (w : Text)
-    → heard_from names b (ended_from w (cs ++ 10 ∷ [])) ≡ heard_from names b (lines_from w cs)
+    → heard_from names b (ended_from w (cs ++ 10 ∷ [])) ≡ heard_from names b (written_lines_from w cs)
 last_line [] names b w = last_here names b w
 last_line (c ∷ cs) names b w = last_step (c == 10) names b c w cs (cs ++ 10 ∷ []) (last_line cs)
 
@@ -189,7 +189,7 @@ mark_short : (t : Bool) (u v : Text) (n : ℕ) → n ≤ length u → n ≤ leng
 mark_short true u v n h g = h
 mark_short false u v n h g = g
 
-marked_byte : (names : NamesOf) (b : Bool) (line rest : Text) (c : ℕ) → (c == 10) ≡ false → most_kept ≤ length line
+marked_byte : (names : NamesOf) (b : Bool) (line rest : Text) (c : ℕ) → (c == 10) ≡ false → most_of_line_kept ≤ length line
     → heard_from names b (marked_from line (c ∷ rest)) ≡ heard_from names b (marked_from line rest)
 marked_byte names b [] rest c e h = absurd (omega arith)
 marked_byte names b (x ∷ []) rest c e h = absurd (omega arith)
@@ -201,13 +201,13 @@ marked_byte names b (x ∷ y ∷ z ∷ w) rest c e h =
     ∙ long_byte names b c rest (without_mark (x ∷ y ∷ z ∷ w)) e (omega arith)
     ∙ ap (λ (ls : List Text). heard_from names b ls) (sym (marked_long x y z rest w))
 
-long_by : (names : NamesOf) (b fresh : Bool) (line rest : Text) (c : ℕ) → (c == 10) ≡ false → most_kept ≤ length line
+long_by : (names : NamesOf) (b fresh : Bool) (line rest : Text) (c : ℕ) → (c == 10) ≡ false → most_of_line_kept ≤ length line
     → heard_from names b (if fresh then marked_from line (c ∷ rest) else ended_from line (c ∷ rest))
     ≡ heard_from names b (if fresh then marked_from line rest else ended_from line rest)
 long_by names b true line rest c e h = marked_byte names b line rest c e h
 long_by names b false line rest c e h = long_byte names b c rest line e (omega arith)
 
-pub to_come_long : (h : HearingOf) (line rest : Text) (c : ℕ) → (c == 10) ≡ false → most_kept ≤ length line
+pub to_come_long : (h : HearingOf) (line rest : Text) (c : ℕ) → (c == 10) ≡ false → most_of_line_kept ≤ length line
     → to_come h line (c ∷ rest) ≡ to_come h line rest
 unfolding to_come
 to_come_long h line rest c e l = long_by h.names h.begun h.fresh line rest c e l
@@ -220,7 +220,7 @@ ended_by names b true line rest = refl
 ended_by names b false line rest = refl
 
 pub to_come_ended : (h : HearingOf) (line rest : Text) → to_come h line (10 ∷ rest)
-    ≡ said_by_line h (whole_line h line) ++ to_come (hearing_after h (meant h.names (whole_line h line))) [] rest
+    ≡ said_by_line h (line_without_mark h line) ++ to_come (hearing_after h (meant h.names (line_without_mark h line))) [] rest
 unfolding to_come
 to_come_ended h line rest = ended_by h.names h.begun h.fresh line rest
 

@@ -5,19 +5,19 @@ use Rattle.mm_types.specs.{Text, Took, IsEnd, Appended, Event}
 use Rattle.mm_types.proofs.{append_nil, appended_none, appended_then, took_none, took_then}
 use Rattle.mm_io.specs.{Wrote}
 use Rattle.mm_script.specs.{printed, IsWellFormed}
-use Rattle.mm_names.specs.{Ending, NamesOf, may_stand, meant, placed_line, spelled}
+use Rattle.mm_names.specs.{Ending, NamesOf, may_stand, meant, placed_line, spelled_events}
 use Rattle.mm_names.specs.declared.meanings.Meaning.{Meaning}
 use Rattle.mm_names.specs.declared.meanings.Meaning.TheVariants as meaning
 use Rattle.mm_names.specs.declared.endings.Ending.TheVariants as ending
-use Rattle.mm_reasons.specs.{Halts, HaltsLine, heard_before, heard_of, HearingOf, hearing_after, Hears, KeepsByte, Listens, ListensOut, SaidAll, SaidBy, SaidFront}
-use Rattle.mm_reasons.specs.{SaidTorn, said_by_line, said_of, Stops, StopsBy, Talked, to_come, whole_line}
+use Rattle.mm_reasons.specs.{HaltsTalk, HaltsAmid, heard_before, heard_of, HearingOf, hearing_after, Hears, KeepsByte, Listens, ListensOut, SaidAll, SaidBy, SaidFront}
+use Rattle.mm_reasons.specs.{SaidTorn, said_by_line, said_of, StopsTalk, StopsBy, Talked, to_come, line_without_mark}
 use Rattle.mm_reasons.proofs.Hearing.{to_come_ended, to_come_fed, to_come_first, to_come_kept, to_come_long, to_come_none, unheard}
 
-pub spelled_append : (xs ys : List Event) → spelled (xs ++ ys) ≡ spelled xs ++ spelled ys
+pub spelled_append : (xs ys : List Event) → spelled_events (xs ++ ys) ≡ spelled_events xs ++ spelled_events ys
 spelled_append [] ys = refl
 spelled_append (x ∷ xs) ys =
     ap (λ zs. printed x ++ 10 ∷ zs) (spelled_append xs ys)
-    ∙ sym (append_assoc (printed x) (10 ∷ spelled xs) (spelled ys))
+    ∙ sym (append_assoc (printed x) (10 ∷ spelled_events xs) (spelled_events ys))
 
 pub formed_append : (xs ys : List Event) → AllByRecursion IsWellFormed xs → AllByRecursion IsWellFormed ys
     → AllByRecursion IsWellFormed (xs ++ ys)
@@ -49,7 +49,7 @@ front_all a b all s = record {
 }
 
 pub torn_all : (a b : Option Text) (all : List Event) → SaidAll a b all → SaidTorn a b all
-torn_all a b all s = record { front = spelled all; behind = []; whole = append_nil (spelled all); written = s.written }
+torn_all a b all s = record { front = spelled_events all; behind = []; whole = append_nil (spelled_events all); written = s.written }
 
 pub torn_event : (a b : Option Text) (line : Text) (e : Event) → line ≡ printed e ++ 10 ∷ []
     → Wrote a b line true → SaidTorn a b (e ∷ [])
@@ -62,11 +62,11 @@ torn_event a b line e is w = record {
 
 -- an event that may stand, or may not
 pub says_placed : {A : Type 0} (r : Result A Ending) (a b : Option Text) (begun : Bool) (e : Event) → may_stand begun e ≡ true
-    → MatchResult r (λ _. SaidAll a b (e ∷ [])) (λ d. HaltsLine d a b (e ∷ []))
-    → MatchResult r (λ _. SaidAll a b (said_of (placed_line begun (meaning.Says e)))) (λ d. HaltsLine d a b (said_of (placed_line begun (meaning.Says e))))
+    → MatchResult r (λ _. SaidAll a b (e ∷ [])) (λ d. HaltsAmid d a b (e ∷ []))
+    → MatchResult r (λ _. SaidAll a b (said_of (placed_line begun (meaning.Says e)))) (λ d. HaltsAmid d a b (said_of (placed_line begun (meaning.Says e))))
 says_placed r a b begun e is s =
     subst (λ (t : Bool). MatchResult r (λ _. SaidAll a b (said_of (if t then meaning.Says e else meaning.Wrong)))
-    (λ d. HaltsLine d a b (said_of (if t then meaning.Says e else meaning.Wrong)))) (sym is) s
+    (λ d. HaltsAmid d a b (said_of (if t then meaning.Says e else meaning.Wrong)))) (sym is) s
 
 pub none_placed : (a : Option Text) (begun : Bool) (e : Event) → may_stand begun e ≡ false → SaidAll a a (said_of (placed_line begun (meaning.Says e)))
 none_placed a begun e is =
@@ -86,8 +86,8 @@ heard_meant r h h' line names m p q s =
 
 -- a line that was said, and then told of
 pub said_explained : {A : Type 0} (r : Result A Ending) (a b : Option Text) (all all' : List Event) → all ≡ all' → SaidAll a b all
-    → IfErr r (λ e. (x y : Option Text) (es : List Event) → SaidAll x y es → HaltsLine e x y es)
-    → MatchResult r (λ _. SaidAll a b all') (λ e. HaltsLine e a b all')
+    → IfErr r (λ e. (x y : Option Text) (es : List Event) → SaidAll x y es → HaltsAmid e x y es)
+    → MatchResult r (λ _. SaidAll a b all') (λ e. HaltsAmid e a b all')
 said_explained (Ok x) a b all all' is s t = subst (λ (es : List Event). SaidAll a b es) is s
 said_explained (Err e) a b all all' is s t = t a b all' (subst (λ (es : List Event). SaidAll a b es) is s)
 
@@ -105,13 +105,13 @@ front_more a b all more s = record {
 pub torn_more : (a b : Option Text) (all more : List Event) → SaidTorn a b all → SaidTorn a b (all ++ more)
 torn_more a b all more s = record {
   front = s.front;
-  behind = s.behind ++ spelled more;
-  whole = sym (append_assoc s.front s.behind (spelled more)) ∙ ap (λ (t : Text). t ++ spelled more) s.whole
+  behind = s.behind ++ spelled_events more;
+  whole = sym (append_assoc s.front s.behind (spelled_events more)) ∙ ap (λ (t : Text). t ++ spelled_events more) s.whole
       ∙ sym (spelled_append all more);
   written = s.written;
 }
 
-pub halts_more : (e : Ending) (a b : Option Text) (all more : List Event) → HaltsLine e a b all → HaltsLine e a b (all ++ more)
+pub halts_more : (e : Ending) (a b : Option Text) (all more : List Event) → HaltsAmid e a b all → HaltsAmid e a b (all ++ more)
 halts_more ending.NoMemory a b all more s = front_more a b all more s
 halts_more ending.OutFault a b all more s = torn_more a b all more s
 halts_more ending.Written a b all more s = s
@@ -139,14 +139,14 @@ front_then a b c xs all s t =
 
 torn_then : (a b c : Option Text) (xs all : List Event) → SaidAll a b xs → SaidTorn b c all → SaidTorn a c (xs ++ all)
 torn_then a b c xs all s t = record {
-  front = spelled xs ++ t.front;
+  front = spelled_events xs ++ t.front;
   behind = t.behind;
-  whole = append_assoc (spelled xs) t.front t.behind ∙ ap (λ (x : Text). spelled xs ++ x) t.whole ∙ sym (spelled_append xs all);
+  whole = append_assoc (spelled_events xs) t.front t.behind ∙ ap (λ (x : Text). spelled_events xs ++ x) t.whole ∙ sym (spelled_append xs all);
   written = appended_then a b c _ _ s.written t.written;
 }
 
-halts_behind : (e : Ending) (a b c : Option Text) (xs all : List Event) → SaidAll a b xs → HaltsLine e b c all
-    → HaltsLine e a c (xs ++ all)
+halts_behind : (e : Ending) (a b c : Option Text) (xs all : List Event) → SaidAll a b xs → HaltsAmid e b c all
+    → HaltsAmid e a c (xs ++ all)
 halts_behind ending.NoMemory a b c xs all s t = front_then a b c xs all s t
 halts_behind ending.OutFault a b c xs all s t = torn_then a b c xs all s t
 halts_behind ending.Written a b c xs all s t = t
@@ -187,7 +187,7 @@ hears_kept h line line' byte a e (inr is) leaves = record {
   leaves = leaves;
 }
 
-pub hears_line : (h h' : HearingOf) (line whole line' : Text) (a b : Option Text) → whole ≡ whole_line h line → line' ≡ []
+pub hears_line : (h h' : HearingOf) (line whole line' : Text) (a b : Option Text) → whole ≡ line_without_mark h line → line' ≡ []
     → SaidAll a b (said_by_line h whole) → h' ≡ hearing_after h (meant h.names whole) → h.leaves_out ≡ true
     → Hears h line h' line' (10 ∷ []) a b
 hears_line h h' line whole line' a b is empty s after leaves = record {
@@ -201,13 +201,13 @@ hears_line h h' line whole line' a b is empty s after leaves = record {
   leaves = ap (λ (k : HearingOf). k.leaves_out) after ∙ leaves;
 }
 
-pub halts_in_line : (e : Ending) (h : HearingOf) (line whole : Text) (a b : Option Text) → whole ≡ whole_line h line
-    → HaltsLine e a b (said_by_line h whole) → Halts e h line (10 ∷ []) a b
+pub halts_in_line : (e : Ending) (h : HearingOf) (line whole : Text) (a b : Option Text) → whole ≡ line_without_mark h line
+    → HaltsAmid e a b (said_by_line h whole) → HaltsTalk e h line (10 ∷ []) a b
 halts_in_line e h line whole a b is s = λ rest.
-    let next : List Event = to_come (hearing_after h (meant h.names (whole_line h line))) [] rest in
-    subst (λ (es : List Event). HaltsLine e a b es) (sym (to_come_ended h line rest))
-    (halts_more e a b (said_by_line h (whole_line h line)) next
-    (subst (λ (w : Text). HaltsLine e a b (said_by_line h w)) is s))
+    let next : List Event = to_come (hearing_after h (meant h.names (line_without_mark h line))) [] rest in
+    subst (λ (es : List Event). HaltsAmid e a b es) (sym (to_come_ended h line rest))
+    (halts_more e a b (said_by_line h (line_without_mark h line)) next
+    (subst (λ (w : Text). HaltsAmid e a b (said_by_line h w)) is s))
 
 pub hears_then : {h h' h'' : HearingOf} {line line' line'' xs ys : Text} {a b c : Option Text} → Hears h line h' line' xs a b
     → Hears h' line' h'' line'' ys b c → Hears h line h'' line'' (xs ++ ys) a c
@@ -224,17 +224,17 @@ hears_then {h = h} {h' = h'} {h'' = h''} {line = line} {line' = line'} {line'' =
     }
 
 pub halts_then : {h h' : HearingOf} {line line' xs : Text} {a b : Option Text} (e : Ending) (ys : Text) (c : Option Text)
-    → Hears h line h' line' xs a b → Halts e h' line' ys b c → Halts e h line (xs ++ ys) a c
+    → Hears h line h' line' xs a b → HaltsTalk e h' line' ys b c → HaltsTalk e h line (xs ++ ys) a c
 halts_then {h = h} {h' = h'} {line = line} {line' = line'} {xs = xs} {a = a} {b = b} e ys c s t = λ rest.
-    subst (λ (es : List Event). HaltsLine e a c es)
+    subst (λ (es : List Event). HaltsAmid e a c es)
     (sym (ap (λ (x : Text). to_come h line x) (append_assoc xs ys rest) ∙ s.comes (ys ++ rest)))
     (halts_behind e a b c s.events (to_come h' line' (ys ++ rest)) (said_so s) (t rest))
 
 -- more bytes come behind
 pub halts_before : (e : Ending) (h : HearingOf) (line xs ys all : Text) (a b : Option Text) → xs ++ ys ≡ all
-    → Halts e h line xs a b → Halts e h line all a b
+    → HaltsTalk e h line xs a b → HaltsTalk e h line all a b
 halts_before e h line xs ys all a b is s = λ rest.
-    subst (λ (es : List Event). HaltsLine e a b es)
+    subst (λ (es : List Event). HaltsAmid e a b es)
     (ap (λ (x : Text). to_come h line x) (sym (append_assoc xs ys rest) ∙ ap (λ (x : Text). x ++ rest) is)) (s (ys ++ rest))
 
 -- ---- a source that is heard
@@ -266,14 +266,14 @@ heard_all {h = h} {h' = h'} {line = line} {line' = line'} {text = text} {a = a} 
     (said_so s)
 
 pub stops_reading : {left mid : Option Text} {h h' : HearingOf} {line line' : Text} {a b : Option Text} → Listens left mid h line h' line' a b
-    → Stops ending.ReadFault left mid h line a b
+    → StopsTalk ending.ReadFault left mid h line a b
 stops_reading s = record { text = s.text; was = s.was; by = heard_all s.hears }
 
 pub stops_long : {left mid : Option Text} {h h' : HearingOf} {line line' : Text} {a b : Option Text} → Listens left mid h line h' line' a b
-    → Stops ending.TooLong left mid h line a b
+    → StopsTalk ending.TooLong left mid h line a b
 stops_long s = record { text = s.text; was = s.was; by = heard_all s.hears }
 
-stops_by : (e : Ending) (h : HearingOf) (line text : Text) (a b : Option Text) → Halts e h line text a b → StopsBy e h line text a b
+stops_by : (e : Ending) (h : HearingOf) (line text : Text) (a b : Option Text) → HaltsTalk e h line text a b → StopsBy e h line text a b
 stops_by ending.NoMemory h line text a b s = s
 stops_by ending.OutFault h line text a b s = s
 stops_by ending.Written h line text a b s = s []
@@ -283,8 +283,8 @@ stops_by ending.ReadFault h line text a b s = absurd (s [])
 stops_by ending.TooLong h line text a b s = absurd (s [])
 
 pub stops_then : {left mid : Option Text} {h h' : HearingOf} {line line' : Text} {a b : Option Text} (e : Ending) (left' : Option Text) (bytes : Text) (c : Option Text)
-    → Listens left mid h line h' line' a b → Took mid left' bytes → Halts e h' line' bytes b c
-    → Stops e left left' h line a c
+    → Listens left mid h line h' line' a b → Took mid left' bytes → HaltsTalk e h' line' bytes b c
+    → StopsTalk e left left' h line a c
 stops_then {left = left} {mid = mid} {h = h} {h' = h'} {line = line} {line' = line'} {a = a} {b = b} e left' bytes c s took t = record {
   text = s.text ++ bytes;
   was = took_then left mid left' s.text bytes s.was took;
@@ -312,7 +312,7 @@ ends_early ending.Written h line text a b left s is = absurd s
 ends_early ending.Usage h line text a b left s is = absurd s
 ends_early ending.Refused h line text a b left s is = absurd s
 
-pub talked_stops : (e : Ending) (left left' a b : Option Text) → Stops e left left' unheard [] a b → Talked e left left' a b
+pub talked_stops : (e : Ending) (left left' a b : Option Text) → StopsTalk e left left' unheard [] a b → Talked e left left' a b
 talked_stops e left left' a b s = record {
   text = s.text;
   was = s.was;
@@ -329,7 +329,7 @@ talked_out left left' a b c s t = record {
   said = subst (λ (es : List Event). SaidAll a c es) (to_come_fed s.listens.text) (heard_all (hears_then s.listens.hears t));
 }
 
-halted_said : (e : Ending) (text : Text) (a b : Option Text) → Halts e unheard [] (text ++ 10 ∷ []) a b → SaidBy e a b text
+halted_said : (e : Ending) (text : Text) (a b : Option Text) → HaltsTalk e unheard [] (text ++ 10 ∷ []) a b → SaidBy e a b text
 halted_said ending.NoMemory text a b s =
     subst (λ (es : List Event). SaidFront a b es) (ap (λ (t : Text). to_come unheard [] t) (append_nil (text ++ 10 ∷ [])) ∙ to_come_fed text) (s [])
 halted_said ending.OutFault text a b s =
@@ -341,7 +341,7 @@ halted_said ending.Usage text a b s = absurd (s [])
 halted_said ending.Refused text a b s = absurd (s [])
 
 pub talked_halts : {h : HearingOf} {line : Text} (e : Ending) (left left' a b c : Option Text) → ListensOut left left' unheard [] h line a b
-    → Halts e h line (10 ∷ []) b c → Talked e left left' a c
+    → HaltsTalk e h line (10 ∷ []) b c → Talked e left left' a c
 talked_halts e left left' a b c s t = record {
   text = s.listens.text;
   was = s.listens.was;
@@ -357,20 +357,20 @@ hear_out {h = h} {line = line} k l left left' a b c p q s t =
     (subst (λ (j : HearingOf). ListensOut left left' j [] h line a b) p (subst (λ (m : Text). ListensOut left left' k m h line a b) q s)) t
 
 pub hear_halts : {h : HearingOf} {line : Text} (e : Ending) (k : HearingOf) (l : Text) (left left' a b c : Option Text) → k ≡ unheard → l ≡ []
-    → ListensOut left left' k l h line a b → Halts e h line (10 ∷ []) b c → Talked e left left' a c
+    → ListensOut left left' k l h line a b → HaltsTalk e h line (10 ∷ []) b c → Talked e left left' a c
 hear_halts {h = h} {line = line} e k l left left' a b c p q s t =
     talked_halts e left left' a b c
     (subst (λ (j : HearingOf). ListensOut left left' j [] h line a b) p (subst (λ (m : Text). ListensOut left left' k m h line a b) q s)) t
 
 pub hear_stops : (e : Ending) (k : HearingOf) (l : Text) (left left' a b : Option Text) → k ≡ unheard → l ≡ []
-    → Stops e left left' k l a b → Talked e left left' a b
+    → StopsTalk e left left' k l a b → Talked e left left' a b
 hear_stops e k l left left' a b p q s =
     talked_stops e left left' a b
-    (subst (λ (j : HearingOf). Stops e left left' j [] a b) p (subst (λ (m : Text). Stops e left left' k m a b) q s))
+    (subst (λ (j : HearingOf). StopsTalk e left left' j [] a b) p (subst (λ (m : Text). StopsTalk e left left' k m a b) q s))
 
 -- a tail call that takes the last line feed
 pub hear_last : {A : Type 0} (r : Result A Ending) (h h' : HearingOf) (line line' : Text) (k : HearingOf) (l : Text) (left left' a b c : Option Text) → k ≡ unheard → l ≡ []
-    → ListensOut left left' k l h line a b → MatchResult r (λ _. Hears h line h' line' (10 ∷ []) b c) (λ e. Halts e h line (10 ∷ []) b c)
+    → ListensOut left left' k l h line a b → MatchResult r (λ _. Hears h line h' line' (10 ∷ []) b c) (λ e. HaltsTalk e h line (10 ∷ []) b c)
     → MatchResult r (λ _. Talked ending.Written left left' a c) (λ e. Talked e left left' a c)
 hear_last (Ok x) h h' line line' k l left left' a b c p q s t = hear_out k l left left' a b c p q s t
 hear_last (Err e) h h' line line' k l left left' a b c p q s t = hear_halts e k l left left' a b c p q s t

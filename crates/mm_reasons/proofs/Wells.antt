@@ -3,7 +3,8 @@ use Rattle.std.proofs.Common.{◌≡◌, ◌≢◌, ◌⊎◌, inl, inr, refl, s
 use Rattle.mm_types.specs.{Text, Rose}
 use Rattle.mm_names.specs.{Ending}
 use Rattle.mm_names.specs.declared.endings.Ending.TheVariants as ending
-use Rattle.mm_reasons.specs.{SinkSeen, GoesWell}
+use Rattle.mm_reasons.specs.{GoesWell}
+use Rattle.mm_io.specs.{SinkSeen}
 
 pub well_here : (a : SinkSeen) → GoesWell a a
 well_here a = record { same = refl; gave = λ e. e }

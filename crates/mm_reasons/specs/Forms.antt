@@ -8,6 +8,7 @@ use Rattle.mm_names.specs.declared.endings.Ending.TheVariants as ending
 use Rattle.mm_reasons.specs.Talks.{Talked}
 use Rattle.mm_reasons.specs.declared.forms.Form.{Form}
 use Rattle.mm_reasons.specs.declared.forms.Form.TheVariants as form
+use Rattle.mm_io.specs.{SinkSeen}
 
 abbrev pub form_named : Text → Option Form
 form_named word =
@@ -16,10 +17,10 @@ form_named word =
     else None
 
 -- no word, `lines` or `talk`
-abbrev pub form_of : List Text → Option Form
-form_of [] = Some form.Script
-form_of (word ∷ []) = form_named word
-form_of (word ∷ other ∷ words) = None
+abbrev pub names_form : List Text → Option Form
+names_form [] = Some form.Script
+names_form (word ∷ []) = form_named word
+names_form (word ∷ other ∷ words) = None
 
 -- A write is blamed where the count of faults of one of two sinks rose; no read is.
 abbrev pub WriteBlamed : Ending → (out out' err err' : ℕ) → Type 0
@@ -56,16 +57,6 @@ RanAs (Some form.Talk) left left' took took' status = RanTalk left left' took to
 RanAs (Some _) left left' took took' status = NamesRan left left' took took' status
 
 -- ---- sinks that did not fail
-
--- What a sink shows: the bytes that it took and those that it gave on, where told, and its count of
--- faults.
-pub record SinkSeen : Type 0 where
-  pub took : Option Text
-  pub gave : Option Text
-  pub faults : ℕ
-
-abbrev pub sink_seen : {K : Type 0} → SinkGhosts K → K → SinkSeen
-sink_seen k x = record { took = k.taken x; gave = k.given x; faults = k.faults x }
 
 -- A sink goes on well: its count of faults is as it was, and where it held nothing back it holds
 -- nothing back.

@@ -4,7 +4,7 @@ use Rattle.std.specs.Prelude.{◌≡◌, ◌⊎◌, ℕ, ◌≤◌, ◌==◌, Bo
 use Rattle.std.specs.List.{AllByRecursion}
 use Rattle.mm_types.specs.{Text, Took, IsEnd, Appended, Event}
 use Rattle.mm_script.specs.{IsWellFormed}
-use Rattle.mm_names.specs.{Ending, NamesOf, no_names, with_name, meant, placed_line, lines_of, without_mark, spelled}
+use Rattle.mm_names.specs.{Ending, NamesOf, no_names, with_given, meant, placed_line, written_lines, without_mark, spelled_events}
 use Rattle.mm_names.specs.declared.meanings.Meaning.{Meaning}
 use Rattle.mm_names.specs.declared.meanings.Meaning.TheVariants as meaning
 use Rattle.mm_names.specs.declared.endings.Ending.TheVariants as ending
@@ -16,7 +16,7 @@ said_of _ = []
 
 -- the names behind a line, and whether a script has begun
 abbrev pub names_after : NamesOf → Meaning → NamesOf
-names_after names (meaning.Gives g) = with_name names g
+names_after names (meaning.Gives g) = with_given names g
 names_after names _ = names
 
 abbrev pub begun_after : Bool → Meaning → Bool
@@ -40,7 +40,7 @@ ended_from begun (c ∷ cs) =
 
 -- what is said of a whole text, and of the lines that end in it
 unfoldable pub heard_of : Text → List Event
-heard_of text = heard_from no_names false (lines_of text)
+heard_of text = heard_from no_names false (written_lines text)
 
 unfoldable pub heard_before : Text → List Event
 heard_before text = heard_from no_names false (ended_from [] (without_mark text))
@@ -48,19 +48,19 @@ heard_before text = heard_from no_names false (ended_from [] (without_mark text)
 -- All of these events were written, or a front of them, or a front of their text.
 pub record SaidAll (took took' : Option Text) (all : List Event) : Type 0 where
   pub formed : AllByRecursion IsWellFormed all
-  pub written : Appended took took' (spelled all)
+  pub written : Appended took took' (spelled_events all)
 
 pub record SaidFront (took took' : Option Text) (all : List Event) : Type 0 where
   pub events : List Event
   pub behind : List Event
   pub front : events ++ behind ≡ all
   pub formed : AllByRecursion IsWellFormed events
-  pub written : Appended took took' (spelled events)
+  pub written : Appended took took' (spelled_events events)
 
 pub record SaidTorn (took took' : Option Text) (all : List Event) : Type 0 where
   pub front : Text
   pub behind : Text
-  pub whole : front ++ behind ≡ spelled all
+  pub whole : front ++ behind ≡ spelled_events all
   pub written : Appended took took' front
 
 -- What a talk says of the text that it read: all, up to the lines that ended where more could not
@@ -109,37 +109,37 @@ to_come h line text =
     (if h.fresh then marked_from line text else ended_from line text)
 
 -- a line that has ended
-abbrev pub whole_line : HearingOf → Text → Text
-whole_line h line = if h.fresh then without_mark line else line
+abbrev pub line_without_mark : HearingOf → Text → Text
+line_without_mark h line = if h.fresh then without_mark line else line
 
 -- the events that a line says
 abbrev pub said_by_line : HearingOf → Text → List Event
 said_by_line h line = said_of (placed_line h.begun (meant h.names line))
 
 -- the most bytes of a line that are kept
-abbrev pub most_kept : ℕ
-most_kept = 65540
+abbrev pub most_of_line_kept : ℕ
+most_of_line_kept = 65540
 
 -- a byte more of a line that has begun, of which no more than so many bytes are kept
 abbrev pub KeepsByte : (line line' : Text) → ℕ → Type 0
-KeepsByte line line' byte = (line' ≡ line ++ byte ∷ []) ⊎ ((line' ≡ line) × (most_kept ≤ length line))
+KeepsByte line line' byte = (line' ≡ line ++ byte ∷ []) ⊎ ((line' ≡ line) × (most_of_line_kept ≤ length line))
 
 -- These bytes were heard: what they say was written, and what comes is what came behind them.
 pub record Hears (h : HearingOf) (line : Text) (h' : HearingOf) (line' bytes : Text) (took took' : Option Text) : Type 0 where
   pub events : List Event
   pub formed : AllByRecursion IsWellFormed events
-  pub written : Appended took took' (spelled events)
+  pub written : Appended took took' (spelled_events events)
   pub comes : (rest : Text) → to_come h line (bytes ++ rest) ≡ events ++ to_come h' line' rest
   pub leaves : h'.leaves_out ≡ true
 
 -- it ended in the midst of what was to be said
-abbrev pub HaltsLine : Ending → (took took' : Option Text) → List Event → Type 0
-HaltsLine ending.NoMemory took took' all = SaidFront took took' all
-HaltsLine ending.OutFault took took' all = SaidTorn took took' all
-HaltsLine _ took took' all = ⊥
+abbrev pub HaltsAmid : Ending → (took took' : Option Text) → List Event → Type 0
+HaltsAmid ending.NoMemory took took' all = SaidFront took took' all
+HaltsAmid ending.OutFault took took' all = SaidTorn took took' all
+HaltsAmid _ took took' all = ⊥
 
-abbrev pub Halts : Ending → HearingOf → (line bytes : Text) → (took took' : Option Text) → Type 0
-Halts e h line bytes took took' = (rest : Text) → HaltsLine e took took' (to_come h line (bytes ++ rest))
+abbrev pub HaltsTalk : Ending → HearingOf → (line bytes : Text) → (took took' : Option Text) → Type 0
+HaltsTalk e h line bytes took took' = (rest : Text) → HaltsAmid e took took' (to_come h line (bytes ++ rest))
 
 -- a source was heard so far
 pub record Listens (left left' : Option Text) (h : HearingOf) (line : Text) (h' : HearingOf) (line' : Text) (took took' : Option Text) : Type 0 where
@@ -149,13 +149,13 @@ pub record Listens (left left' : Option Text) (h : HearingOf) (line : Text) (h' 
 
 -- it was heard no further
 abbrev pub StopsBy : Ending → HearingOf → (line text : Text) → (took took' : Option Text) → Type 0
-StopsBy ending.NoMemory h line text took took' = Halts ending.NoMemory h line text took took'
-StopsBy ending.OutFault h line text took took' = Halts ending.OutFault h line text took took'
+StopsBy ending.NoMemory h line text took took' = HaltsTalk ending.NoMemory h line text took took'
+StopsBy ending.OutFault h line text took took' = HaltsTalk ending.OutFault h line text took took'
 StopsBy ending.ReadFault h line text took took' = SaidAll took took' (to_come h line text)
 StopsBy ending.TooLong h line text took took' = SaidAll took took' (to_come h line text)
 StopsBy _ h line text took took' = ⊥
 
-pub record Stops (e : Ending) (left left' : Option Text) (h : HearingOf) (line : Text) (took took' : Option Text) : Type 0 where
+pub record StopsTalk (e : Ending) (left left' : Option Text) (h : HearingOf) (line : Text) (took took' : Option Text) : Type 0 where
   pub text : Text
   pub was : Took left left' text
   pub by : StopsBy e h line text took took'

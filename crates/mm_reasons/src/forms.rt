@@ -1,5 +1,5 @@
 ghost use Rattle.std.specs.Prelude.{◌≡◌, IfOk, map, string_bytes};
-ghost use Rattle.mm_reasons.specs.Forms.{form_named, form_of};
+ghost use Rattle.mm_reasons.specs.Forms.{form_named, names_form};
 
 use mm_arguments::{Form as Named, read_words};
 use mm_script::is_text;
@@ -32,7 +32,7 @@ fn form_named(word: &[u8]) -> Option<Form>
 
 /// Which form the words are. An `Err` is memory that was refused.
 pub(crate) fn form_of(alloc: Global, words: &[String]) -> Result<Option<Form>, NoMemory>
-    ensures { IfOk result (λ r. r ≡ form_of (map string_bytes words.now)) }
+    ensures { IfOk result (λ r. r ≡ names_form (map string_bytes words.now)) }
 {
     if words.is_empty() {
         return Ok(Some(Form::Script));

@@ -2,9 +2,10 @@ ghost use Rattle.std.specs.Prelude.{◌≡◌, ◌≢◌, ◌≤◌, ℕ, ◌∷
 ghost use Rattle.mm_types.specs.{Event, Text};
 ghost use Rattle.mm_script.specs.{printed, IsWellFormed};
 ghost use Rattle.mm_names.specs.{FormedIn, meant, placed_line};
-ghost use Rattle.mm_reasons.specs.{GoesWell, sink_seen, Talked, WriteBlamed, Blamed};
-ghost use Rattle.mm_reasons.specs.{Halts, HaltsLine, Hears, KeepsByte, ListensOut, SaidAll, Stops};
-ghost use Rattle.mm_reasons.specs.{hearing_after, said_by_line, said_of, whole_line};
+ghost use Rattle.mm_reasons.specs.{GoesWell, Talked, WriteBlamed, Blamed};
+ghost use Rattle.mm_io.specs.{sink_seen};
+ghost use Rattle.mm_reasons.specs.{HaltsTalk, HaltsAmid, Hears, KeepsByte, ListensOut, SaidAll, StopsTalk};
+ghost use Rattle.mm_reasons.specs.{hearing_after, said_by_line, said_of, line_without_mark};
 
 use crate::explainers::Explainer;
 use crate::top::write_flushed;
@@ -36,7 +37,7 @@ fn say<O: Sink>(alloc: Global, event: &Event, out: &mut O) -> Result<(), Ending>
     requires { IsWellFormed event.now }
     ensures said { MatchResult result
         (λ _. SaidAll (O.taken out.old) (O.taken out.new) (event.now ∷ []))
-        (λ e. HaltsLine e (O.taken out.old) (O.taken out.new) (event.now ∷ [])) }
+        (λ e. HaltsAmid e (O.taken out.old) (O.taken out.new) (event.now ∷ [])) }
     ensures later { O.faults out.old ≤ O.faults out.new }
     ensures blame { IfErr result (λ e. (n : ℕ)
         → WriteBlamed e (O.faults out.old) (O.faults out.new) n n) }
@@ -65,7 +66,7 @@ fn say_meaning<O: Sink>(
     requires { FormedIn meaning.now }
     ensures said { MatchResult result
         (λ _. SaidAll (O.taken out.old) (O.taken out.new) (said_of (placed_line begun meaning.now)))
-        (λ e. HaltsLine e (O.taken out.old) (O.taken out.new) (said_of (placed_line begun meaning.now))) }
+        (λ e. HaltsAmid e (O.taken out.old) (O.taken out.new) (said_of (placed_line begun meaning.now))) }
     ensures later { O.faults out.old ≤ O.faults out.new }
     ensures blame { IfErr result (λ e. (n : ℕ)
         → WriteBlamed e (O.faults out.old) (O.faults out.new) n n) }
@@ -98,7 +99,7 @@ fn explain<E: Sink>(
     requires { explainer.old.leaves_out ≡ true }
     ensures heard { OnOk result (explainer.new ≡ hearing_after explainer.old meaning.now) }
     ensures halts { IfErr result (λ e. (a b : Option Text)
-        (all : List Event) → SaidAll a b all → HaltsLine e a b all) }
+        (all : List Event) → SaidAll a b all → HaltsAmid e a b all) }
     ensures err_later { E.faults err.old ≤ E.faults err.new }
     ensures blame { IfErr result (λ e. (n : ℕ)
         → WriteBlamed e n n (E.faults err.old) (E.faults err.new)) }
@@ -130,7 +131,7 @@ fn take_line<O: Sink, E: Sink>(
     requires { explainer.old.leaves_out ≡ true }
     ensures said { MatchResult result
         (λ _. SaidAll (O.taken out.old) (O.taken out.new) (said_by_line explainer.old line.now))
-        (λ e. HaltsLine e (O.taken out.old) (O.taken out.new) (said_by_line explainer.old line.now)) }
+        (λ e. HaltsAmid e (O.taken out.old) (O.taken out.new) (said_by_line explainer.old line.now)) }
     ensures heard { OnOk result
         (explainer.new ≡ hearing_after explainer.old (meant explainer.old.names line.now)) }
     ensures later { O.faults out.old ≤ O.faults out.new }
@@ -160,7 +161,7 @@ fn take_line<O: Sink, E: Sink>(
 
 /// The line that has begun, without the mark that may stand in front of the first.
 fn whole_line<'a>(explainer: &Explainer, line: &'a [u8]) -> &'a [u8]
-    ensures { result.now ≡ whole_line explainer.now line.now }
+    ensures { result.now ≡ line_without_mark explainer.now line.now }
 {
     if explainer.is_new() {
         without_mark(line)
@@ -194,7 +195,7 @@ fn take_byte<O: Sink, E: Sink>(
     ensures said { MatchResult result
         (λ _. Hears explainer.old line.old.items explainer.new line.new.items (byte ∷ [])
         (O.taken out.old) (O.taken out.new))
-        (λ e. Halts e explainer.old line.old.items (byte ∷ []) (O.taken out.old) (O.taken out.new)) }
+        (λ e. HaltsTalk e explainer.old line.old.items (byte ∷ []) (O.taken out.old) (O.taken out.new)) }
     ensures later { O.faults out.old ≤ O.faults out.new }
     ensures err_later { E.faults err.old ≤ E.faults err.new }
     ensures blame { IfErr result (λ e. WriteBlamed e (O.faults out.old) (O.faults out.new)
@@ -234,7 +235,7 @@ fn take_bytes<O: Sink, E: Sink>(
     ensures said { MatchResult result
         (λ _. Hears explainer.old line.old.items explainer.new line.new.items bytes.now
         (O.taken out.old) (O.taken out.new))
-        (λ e. Halts e explainer.old line.old.items bytes.now (O.taken out.old) (O.taken out.new)) }
+        (λ e. HaltsTalk e explainer.old line.old.items bytes.now (O.taken out.old) (O.taken out.new)) }
     ensures later { O.faults out.old ≤ O.faults out.new }
     ensures err_later { E.faults err.old ≤ E.faults err.new }
     ensures blame { IfErr result (λ e. WriteBlamed e (O.faults out.old) (O.faults out.new)
@@ -268,7 +269,7 @@ fn listen<S: Source, O: Sink, E: Sink>(
     ensures said { MatchResult result
         (λ _. ListensOut (S.left source.old) (S.left source.new) explainer.old line.old.items
         explainer.new line.new.items (O.taken out.old) (O.taken out.new))
-        (λ e. Stops e (S.left source.old) (S.left source.new) explainer.old line.old.items
+        (λ e. StopsTalk e (S.left source.old) (S.left source.new) explainer.old line.old.items
         (O.taken out.old) (O.taken out.new)) }
     ensures later { O.faults out.old ≤ O.faults out.new }
     ensures err_later { E.faults err.old ≤ E.faults err.new }

@@ -1,8 +1,10 @@
 ghost use Rattle.std.specs.Prelude.{◌≡◌, ◌≢◌, ◌⊎◌, ◌≤◌, Option, Some, OnOk, true, map, string_bytes, is_err};
 ghost use Rattle.mm_types.specs.{Text, Rose};
 ghost use Rattle.mm_io.specs.{CountsFaults, Wrote};
-ghost use Rattle.mm_names.specs.{script_of, is_whole, Ends, WasRead, CameTo, most_lines, names_status};
-ghost use Rattle.mm_reasons.specs.{Form, GoesWell, sink_seen, form_of, RanAs, WriteBlamed, Blamed};
+ghost use Rattle.mm_names.specs.{script_in, is_whole, ScriptEnds, WasReadWhole, CameTo, names_status};
+ghost use Rattle.mm_script.specs.{most_lines};
+ghost use Rattle.mm_reasons.specs.{Form, GoesWell, names_form, RanAs, WriteBlamed, Blamed};
+ghost use Rattle.mm_io.specs.{sink_seen};
 
 use crate::explainers::explained;
 use crate::forms::{Form, form_of};
@@ -72,8 +74,8 @@ fn notes(alloc: Global, text: &[u8], script: &Script, form: Form) -> Result<Vec<
 #[tactic(auto, using(crate::proofs::Endings::endings, crate::proofs::Wells::wells))]
 /// Writes a script's lines.
 fn put_script<O: Sink>(script: &Script, out: &mut O) -> Ending
-    ensures came { (left left' : Option Text) (text : Text) → WasRead left left' text
-        → Ends (script_of text) script.now → is_whole script.now ≡ true
+    ensures came { (left left' : Option Text) (text : Text) → WasReadWhole left left' text
+        → ScriptEnds (script_in text) script.now → is_whole script.now ≡ true
         → script.now.lines ≤ most_lines
         → CameTo result left left' (O.taken out.old) (O.taken out.new) }
     ensures blame { (result ≡ Ending.Written)
@@ -90,8 +92,8 @@ fn put_script<O: Sink>(script: &Script, out: &mut O) -> Ending
 #[tactic(auto, using(crate::proofs::Endings::endings, crate::proofs::Blames::blames, crate::proofs::Wells::wells))]
 /// Ends a run whose file was read: the script is written, or it is told why not.
 fn finish<O: Sink, E: Sink>(script: &Script, notes: &[u8], out: &mut O, err: &mut E) -> Ending
-    ensures came { (left left' : Option Text) (text : Text) → WasRead left left' text
-        → Ends (script_of text) script.now
+    ensures came { (left left' : Option Text) (text : Text) → WasReadWhole left left' text
+        → ScriptEnds (script_in text) script.now
         → CameTo result left left' (O.taken out.old) (O.taken out.new) }
     ensures blame { WriteBlamed result (O.faults out.old) (O.faults out.new)
         (E.faults err.old) (E.faults err.new) }
@@ -138,11 +140,16 @@ fn translate<S: Source, O: Sink, E: Sink>(
     ensures err_well { result ≢ Ending.OutFault →
         GoesWell (sink_seen E.Sink err.old) (sink_seen E.Sink err.new) }
 {
-    // reading writes to no sink
     let text = match read_all(alloc, source) {
         Ok(text) => text,
         Err(Ending::ReadFault) => return Ending::ReadFault,
-        Err(Ending::TooLong) => return Ending::TooLong,
+        Err(Ending::TooLong) => {
+            return tell(
+                err,
+                b"the file has more than 100000000 bytes\n",
+                Ending::TooLong,
+            );
+        }
         Err(_) => return Ending::NoMemory,
     };
     let script = match translated(alloc, text.as_slice()) {
@@ -186,7 +193,7 @@ pub fn run_names<S: Source, O: Sink, E: Sink>(
     out: &mut O,
     err: &mut E,
 ) -> u8
-    ensures ran { RanAs (form_of (map string_bytes words.now)) (S.left source.old)
+    ensures ran { RanAs (names_form (map string_bytes words.now)) (S.left source.old)
         (S.left source.new)
         (O.taken out.old) (O.taken out.new) result }
 
@@ -195,7 +202,7 @@ pub fn run_names<S: Source, O: Sink, E: Sink>(
     ensures out_fault { result ≡ 5 → Rose (O.faults out.old) (O.faults out.new)
         ⊎ Rose (E.faults err.old) (E.faults err.new) }
 
-    ensures form { (f : Form) → form_of (map string_bytes words.now) ≡ Some f → result ≢ 2 }
+    ensures form { (f : Form) → names_form (map string_bytes words.now) ≡ Some f → result ≢ 2 }
 
     // Where none failed no count is another; and a sink that held nothing back before holds nothing
     // back then. That the words are no form may have been told in vain.

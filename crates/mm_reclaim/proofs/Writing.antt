@@ -18,7 +18,7 @@ use Rattle.mm_slots.specs.{IsLowest as LowestSlot}
 use Rattle.mm_frame_laws.specs.{Writable, first_passing}
 use Rattle.mm_frame_laws.proofs.{on_times, which_writes, store_there, wrote_legal, slot_parts, slot_backing, block_is, on_append, store_in_writer}
 use Rattle.mm_frame_laws.proofs.{write_others}
-use Rattle.mm_parts.specs.{goes_to, lowest_free, write_target, own_after}
+use Rattle.mm_parts.specs.{goes_to, lowest_free_slot, write_target, own_after}
 use Rattle.mm_parts.proofs.{lowest_is as lowest_number}
 use Rattle.mm_state_calls.specs.{StateOf, Made, StateHolds, moved}
 use Rattle.mm_reclaim.specs.{IsUnderWay, writable_modified, Rounds, writings}
@@ -75,10 +75,10 @@ same_lowest free s h = record { is_free = h.is_free; below = h.below }
 -- a frame is written to where the code writes it
 pub target_is : (l : FrameLife) → Sound l → (f : Frame) → is_on f.0 l.frames.modified ≡ true → (home : Stored) → IsLegal (move.Write f home) l → home ≡ write_target l f
 target_is l s f on (stored.Slot t) legal =
-    let low : t.0 ≡ lowest_free l.free_slots = lowest_number l.free_slots t.0 (same_lowest l.free_slots t.0 (lowest_is l.free_slots t.0 (slot_parts l s f on t legal).1)) in
+    let low : t.0 ≡ lowest_free_slot l.free_slots = lowest_number l.free_slots t.0 (same_lowest l.free_slots t.0 (lowest_is l.free_slots t.0 (slot_parts l s f on t legal).1)) in
     let none : (record_at l.frames f.0).backing ≡ backing.None = slot_backing l s f on t legal in
-    ap (λ (n : ℕ). stored.Slot (record { 0 = n })) low ∙ sym (ap (λ (b : Backing). goes_to b (lowest_free l.free_slots)) none)
-target_is l s f on (stored.Block b) legal = sym (ap (λ (x : Backing). goes_to x (lowest_free l.free_slots)) (block_is l s f on b legal))
+    ap (λ (n : ℕ). stored.Slot (record { 0 = n })) low ∙ sym (ap (λ (b : Backing). goes_to b (lowest_free_slot l.free_slots)) none)
+target_is l s f on (stored.Block b) legal = sym (ap (λ (x : Backing). goes_to x (lowest_free_slot l.free_slots)) (block_is l s f on b legal))
 
 pub target_legal : (s : StateOf) → StateHolds s → IsUnderWay s → (f : Frame) → Writable s.life f.0 → IsLegal (move.Write f (write_target s.life f)) s.life
 target_legal s h b f w = ∥∥₁_elim h.reached (Bool-set _ _) (λ r.
@@ -248,15 +248,15 @@ writer_legal s f h k depth front =
     subst (λ (x : Stored). IsLegal (move.Write f x) s.life) (target_is s.life sound f on there.0 there.1) there.1)
 
 -- the lowest free slot, counted in two ways
-lowest_from_is : (free : List Bool) (n : ℕ) → lowest_from n free ≡ lowest_free free + n
+lowest_from_is : (free : List Bool) (n : ℕ) → lowest_from n free ≡ lowest_free_slot free + n
 lowest_from_is [] n = sym (zero-add n)
 lowest_from_is (true ∷ free) n = sym (zero-add n)
 lowest_from_is (false ∷ free) n = let rest = lowest_from_is free (n + 1) in omega (arith, rest)
 
-lowest_same : (free : List Bool) → lowest_from 0 free ≡ lowest_free free
+lowest_same : (free : List Bool) → lowest_from 0 free ≡ lowest_free_slot free
 lowest_same free = let h = lowest_from_is free 0 in omega (arith, h)
 
-target_same : (b : Backing) (l : FrameLife) → goes_to b (lowest_free l.free_slots) ≡ target b l
+target_same : (b : Backing) (l : FrameLife) → goes_to b (lowest_free_slot l.free_slots) ≡ target b l
 target_same backing.None l = ap (λ (n : ℕ). stored.Slot (record { 0 = n })) (sym (lowest_same l.free_slots))
 target_same (backing.Slot t) l = ap (λ (n : ℕ). stored.Slot (record { 0 = n })) (sym (lowest_same l.free_slots))
 target_same (backing.Block b) l = refl

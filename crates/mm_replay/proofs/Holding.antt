@@ -5,7 +5,7 @@ use Rattle.std.proofs.lemmas.Bool.{eqb-true, and_parts}
 use Rattle.mm_types.specs.{Frame, Key, Place, Pid, Vpn, Area, Held}
 use Rattle.mm_types.specs.declared.numbers.Key.TheVariants.{Private, Shared}
 use Rattle.mm_move_rules.specs.{changed, same_key, same_place, is_dead}
-use Rattle.mm_replay.specs.{Alive, Writes, Keeps, found, alive_at, Written, Stays, held_of, alive_paging, no_keys, no_paging, no_places}
+use Rattle.mm_replay.specs.{Alive, Writes, Keeps, found_pair, alive_at, Written, Stays, held_of, alive_paging, no_keys, no_paging, no_places}
 use Rattle.mm_replay.specs.declared.pairs.Pairs.{Pairs}
 use Rattle.mm_move_laws.proofs.{same_key-true}
 use Rattle.mm_replay.proofs.Outcomes.{kept_at}
@@ -13,53 +13,53 @@ use Rattle.mm_replay.proofs.Outcomes.{kept_at}
 -- ---- two tables of keys as one
 
 module _ (pages indices : Pairs Alive) where
-  private_changes : (new : Pairs Alive) (p : Pid) (v : Vpn) (x : Option Alive) → Writes (found pages) (found new) p.0 v.0 x →
+  private_changes : (new : Pairs Alive) (p : Pid) (v : Vpn) (x : Option Alive) → Writes (found_pair pages) (found_pair new) p.0 v.0 x →
       (q : Key) → alive_at new indices q ≡ changed same_key (alive_at pages indices) (Private p v) x q
   unfolding alive_at
   private_changes new p v x h (Private q w) = h q.0 w.0
   private_changes new p v x h (Shared a i) = refl
 
-  pub private_written : (new : Pairs Alive) (k : Key) (p : Pid) (v : Vpn) (n : ℕ) (x : Option Alive) → k ≡ Private p v → n ≡ p.0 → Writes (found pages) (found new) n v.0 x → Written (alive_at pages indices) (alive_at new indices) k x
+  pub private_written : (new : Pairs Alive) (k : Key) (p : Pid) (v : Vpn) (n : ℕ) (x : Option Alive) → k ≡ Private p v → n ≡ p.0 → Writes (found_pair pages) (found_pair new) n v.0 x → Written (alive_at pages indices) (alive_at new indices) k x
   private_written new k p v n x e is h =
-      let there : Writes (found pages) (found new) p.0 v.0 x = subst (λ (m : ℕ). Writes (found pages) (found new) m v.0 x) is h in
+      let there : Writes (found_pair pages) (found_pair new) p.0 v.0 x = subst (λ (m : ℕ). Writes (found_pair pages) (found_pair new) m v.0 x) is h in
       λ q. private_changes new p v x there q ∙ sym (ap (λ (r : Key). changed same_key (alive_at pages indices) r x q) e)
 
-  shared_changes : (new : Pairs Alive) (a : Area) (i : ℕ) (x : Option Alive) → Writes (found indices) (found new) a.0 i x →
+  shared_changes : (new : Pairs Alive) (a : Area) (i : ℕ) (x : Option Alive) → Writes (found_pair indices) (found_pair new) a.0 i x →
       (q : Key) → alive_at pages new q ≡ changed same_key (alive_at pages indices) (Shared a i) x q
   unfolding alive_at
   shared_changes new a i x h (Private q w) = refl
   shared_changes new a i x h (Shared b j) = h b.0 j
 
-  pub shared_written : (new : Pairs Alive) (k : Key) (a : Area) (i : ℕ) (x : Option Alive) → k ≡ Shared a i → Writes (found indices) (found new) a.0 i x → Written (alive_at pages indices) (alive_at pages new) k x
+  pub shared_written : (new : Pairs Alive) (k : Key) (a : Area) (i : ℕ) (x : Option Alive) → k ≡ Shared a i → Writes (found_pair indices) (found_pair new) a.0 i x → Written (alive_at pages indices) (alive_at pages new) k x
   shared_written new k a i x e h = λ q. shared_changes new a i x h q ∙ sym (ap (λ (r : Key). changed same_key (alive_at pages indices) r x q) e)
 
-  pub private_kept : (new : Pairs Alive) → Keeps (found pages) (found new) → Stays (alive_at pages indices) (alive_at new indices)
+  pub private_kept : (new : Pairs Alive) → Keeps (found_pair pages) (found_pair new) → Stays (alive_at pages indices) (alive_at new indices)
   unfolding alive_at
   private_kept new h (Private p v) = h p.0 v.0
   private_kept new h (Shared a i) = refl
 
-  pub shared_kept : (new : Pairs Alive) → Keeps (found indices) (found new) → Stays (alive_at pages indices) (alive_at pages new)
+  pub shared_kept : (new : Pairs Alive) → Keeps (found_pair indices) (found_pair new) → Stays (alive_at pages indices) (alive_at pages new)
   unfolding alive_at
   shared_kept new h (Private p v) = refl
   shared_kept new h (Shared a i) = h a.0 i
 
-  pub private_is : (k : Key) (p : Pid) (v : Vpn) (n : ℕ) → k ≡ Private p v → n ≡ p.0 → alive_at pages indices k ≡ found pages n v.0
+  pub private_is : (k : Key) (p : Pid) (v : Vpn) (n : ℕ) → k ≡ Private p v → n ≡ p.0 → alive_at pages indices k ≡ found_pair pages n v.0
   unfolding alive_at
-  private_is k p v n e is = ap (alive_at pages indices) e ∙ ap (λ (m : ℕ). found pages m v.0) (sym is)
+  private_is k p v n e is = ap (alive_at pages indices) e ∙ ap (λ (m : ℕ). found_pair pages m v.0) (sym is)
 
-  pub shared_is : (k : Key) (a : Area) (i : ℕ) → k ≡ Shared a i → alive_at pages indices k ≡ found indices a.0 i
+  pub shared_is : (k : Key) (a : Area) (i : ℕ) → k ≡ Shared a i → alive_at pages indices k ≡ found_pair indices a.0 i
   unfolding alive_at
   shared_is k a i e = ap (alive_at pages indices) e
 
-  none_alive : ((a b : ℕ) → found pages a b ≡ None) → ((a b : ℕ) → found indices a b ≡ None) → (q : Key) → alive_at pages indices q ≡ None
+  none_alive : ((a b : ℕ) → found_pair pages a b ≡ None) → ((a b : ℕ) → found_pair indices a b ≡ None) → (q : Key) → alive_at pages indices q ≡ None
   unfolding alive_at
   none_alive f g (Private p v) = f p.0 v.0
   none_alive f g (Shared a i) = g a.0 i
 
-  pub stands_none : ((a b : ℕ) → found pages a b ≡ None) → ((a b : ℕ) → found indices a b ≡ None) → ◌≡◌ {A = Key → Held} (λ q. held_of (alive_at pages indices q)) no_keys
+  pub stands_none : ((a b : ℕ) → found_pair pages a b ≡ None) → ((a b : ℕ) → found_pair indices a b ≡ None) → ◌≡◌ {A = Key → Held} (λ q. held_of (alive_at pages indices q)) no_keys
   stands_none f g = λ i. λ (q : Key). (ap held_of (none_alive f g q)) i
 
-  pub paging_none : ((a b : ℕ) → found pages a b ≡ None) → ((a b : ℕ) → found indices a b ≡ None) → ◌≡◌ {A = Key → Bool} (λ q. alive_paging (alive_at pages indices q)) no_paging
+  pub paging_none : ((a b : ℕ) → found_pair pages a b ≡ None) → ((a b : ℕ) → found_pair indices a b ≡ None) → ◌≡◌ {A = Key → Bool} (λ q. alive_paging (alive_at pages indices q)) no_paging
   paging_none f g = λ i. λ (q : Key). (ap alive_paging (none_alive f g q)) i
 
 -- ---- what is known of keys, as two functions

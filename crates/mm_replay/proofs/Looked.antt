@@ -7,7 +7,7 @@ use Rattle.mm_page_lists.specs.{ListsOf, number_at}
 use Rattle.mm_page_lists.proofs.{list_within}
 use Rattle.mm_slots.specs.{free_count}
 use Rattle.mm_slots.proofs.{count_changed}
-use Rattle.mm_replay.specs.{Kept, table_of, frames_on, IsBehind, AreApartFrom, FrameList, frame}
+use Rattle.mm_replay.specs.{Kept, table_from_lists, frames_on, IsBehind, AreApartFrom, FrameList, frame}
 use Rattle.mm_replay.specs.declared.four_lists.FrameList.TheVariants as list
 
 -- ---- lists
@@ -22,21 +22,21 @@ framed_behind lists f o r e behind none = record {
 module _ (records : List Record) (v : ListsOf) (s : Kept records v) (f : ℕ) (o : Option ℕ)
     (behind : (j k : ℕ) → number_at v.lists j k ≡ Some f → o ≡ number_at v.lists j (k + 1))
     (none : ((j k : ℕ) → number_at v.lists j k ≡ Some f → ⊥) → o ≡ None) where
-  next_there : (j : FrameList) (k : ℕ) → slice_get (frames_on (table_of records v) j) k ≡ Some f → o ≡ slice_get (frames_on (table_of records v) j) (k + 1)
+  next_there : (j : FrameList) (k : ℕ) → slice_get (frames_on (table_from_lists records v) j) k ≡ Some f → o ≡ slice_get (frames_on (table_from_lists records v) j) (k + 1)
   next_there list.Zeroed k e = behind 0 k e
   next_there list.Free k e = behind 1 k e
   next_there list.Standby k e = behind 2 k e
   next_there list.Modified k e = behind 3 k e
 
-  nowhere : ((j : FrameList) (k : ℕ) → slice_get (frames_on (table_of records v) j) k ≡ Some f → ⊥) → (j k : ℕ) → number_at v.lists j k ≡ Some f → ⊥
+  nowhere : ((j : FrameList) (k : ℕ) → slice_get (frames_on (table_from_lists records v) j) k ≡ Some f → ⊥) → (j k : ℕ) → number_at v.lists j k ≡ Some f → ⊥
   nowhere h zero k e = h list.Zeroed k e
   nowhere h (suc zero) k e = h list.Free k e
   nowhere h (suc (suc zero)) k e = h list.Standby k e
   nowhere h (suc (suc (suc zero))) k e = h list.Modified k e
   nowhere h (suc (suc (suc (suc j)))) k e = let low = list_within v.lists (suc (suc (suc (suc j)))) k f e in absurd (omega (arith, low, s.lists.counted))
 
-  pub behind_frame : (r : Option Frame) → r ≡ option_map frame o → IsBehind (frames_on (table_of records v)) f r
-  behind_frame r e = framed_behind (frames_on (table_of records v)) f o r e next_there (λ h. none (nowhere h))
+  pub behind_frame : (r : Option Frame) → r ≡ option_map frame o → IsBehind (frames_on (table_from_lists records v)) f r
+  behind_frame r e = framed_behind (frames_on (table_from_lists records v)) f o r e next_there (λ h. none (nowhere h))
 
 -- ---- slots
 

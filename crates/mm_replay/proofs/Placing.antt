@@ -9,7 +9,7 @@ use Rattle.mm_types.proofs.{or_right, same_or_not, same_tests, differ}
 use Rattle.mm_move_rules.specs.{blank, is_idle, has_request, is_read, is_first, is_empty, is_on, off_lists}
 use Rattle.mm_page_lists.specs.{ListsOf, IsOnOne, list_at, number_at, with_list, without}
 use Rattle.mm_page_lists.proofs.{without_other, without_removes, list-without, push_found, push_keeps, push_new}
-use Rattle.mm_replay.specs.{AreLists, table_of, record_of, belongs, is_owned, is_changed_page, Kept, Off, IsEmptyFrame}
+use Rattle.mm_replay.specs.{AreLists, table_from_lists, record_of, belongs, is_owned, is_changed_page, Kept, Off, IsEmptyFrame}
 use Rattle.mm_replay.specs.Sound.{Listed}
 
 -- ---- where a record belongs
@@ -136,7 +136,7 @@ module _ (records : List Record) (v : ListsOf) (f : ℕ) where
   -- ---- the tables that these show
 
   -- the frame leaves standby and modified alone: it is on neither of the first two
-  pub table_left : Kept records v → is_some (record_of records f).owner ≡ true → table_of records (record v { lists = map (without f) v.lists }) ≡ off_lists (table_of records v) f
+  pub table_left : Kept records v → is_some (record_of records f).owner ≡ true → table_from_lists records (record v { lists = map (without f) v.lists }) ≡ off_lists (table_from_lists records v) f
   table_left k owned =
       let kept : (j : ℕ) → j < 2 → list_at (map (without f) v.lists) j ≡ list_at v.lists j = λ j low.
       list-without f v.lists j ∙ without_other f (list_at v.lists j) (λ m e. owned_not_low (record_of records f) j owned low (k.listed j m f e)) in
@@ -146,7 +146,7 @@ module _ (records : List Record) (v : ListsOf) (f : ℕ) where
       let m = list-without f v.lists 3 in
       λ t. record { records = records; zeroed = z t; free = e t; standby = s t; modified = m t }
 
-  pub table_stays : Off records v f → table_of records v ≡ off_lists (table_of records v) f
+  pub table_stays : Off records v f → table_from_lists records v ≡ off_lists (table_from_lists records v) f
   table_stays o =
       let s = sym (without_other f (list_at v.lists 2) (o.off 2)) in
       let m = sym (without_other f (list_at v.lists 3) (o.off 3)) in
@@ -231,7 +231,7 @@ nobody : (o : Option Key) → (is_some o ≡ true → ⊥) → o ≡ None
 nobody None h = refl
 nobody (Some k) h = absurd (h refl)
 
-pub listed_of : (records : List Record) (v : ListsOf) → Kept records v → Listed (table_of records v)
+pub listed_of : (records : List Record) (v : ListsOf) → Kept records v → Listed (table_from_lists records v)
 listed_of records v k = record {
   zeroed = λ f e. empty f 0 (omega arith) (first_at f (list_at v.lists 0) e);
   free = λ f e. empty f 1 (omega arith) (first_at f (list_at v.lists 1) e);
@@ -240,7 +240,7 @@ listed_of records v k = record {
   owned = k.owned;
 }
   where
-    empty : (f j : ℕ) → j < 2 → number_at v.lists j 0 ≡ Some f → IsEmptyFrame (table_of records v) f
+    empty : (f j : ℕ) → j < 2 → number_at v.lists j 0 ≡ Some f → IsEmptyFrame (table_from_lists records v) f
     empty f j low first =
         let here = k.listed j 0 f first in
         record {

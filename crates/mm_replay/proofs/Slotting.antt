@@ -8,7 +8,7 @@ use Rattle.mm_types.proofs.{same_or_not, get_set_same, get_set_other, get_within
 use Rattle.mm_move_rules.specs.{is_lowest}
 use Rattle.mm_slots.specs.{free_count, IsLowest}
 use Rattle.mm_slots.proofs.{counted_some}
-use Rattle.mm_replay.specs.{IsLowestIn, without_slot, AreApartFrom}
+use Rattle.mm_replay.specs.{IsLowestIn, without_kept_slot, AreApartFrom}
 
 -- where none is free each slot is taken
 pub none_free : (xs : List Bool) (k : ℕ) (b : Bool) → free_count xs ≡ 0 → slice_get xs k ≡ Some b → b ≡ false
@@ -118,12 +118,12 @@ lowest_is free others (Some t) s a e =
     let same : t ≡ s = (unsigned_Decides t s).0 (sym (lowest_some s t free a.is_lowest) ∙ e) in
     a.others_are ∙ ap (λ (k : ℕ). slice_set free k false) same
 
-pub taken_next : (free others others' : List Bool) (lowest next : Option ℕ) (s : ℕ) → AreApartFrom free lowest others → is_lowest s free ≡ true → IsLowestIn others next → others' ≡ without_slot others next → AreApartFrom (slice_set free s false) next others'
+pub taken_next : (free others others' : List Bool) (lowest next : Option ℕ) (s : ℕ) → AreApartFrom free lowest others → is_lowest s free ≡ true → IsLowestIn others next → others' ≡ without_kept_slot others next → AreApartFrom (slice_set free s false) next others'
 taken_next free others others' lowest next s a e l w =
     let same = lowest_is free others lowest s a e in
     record {
       is_lowest = subst (λ (xs : List Bool). IsLowestIn xs next) same l;
-      others_are = w ∙ ap (λ (xs : List Bool). without_slot xs next) same;
+      others_are = w ∙ ap (λ (xs : List Bool). without_kept_slot xs next) same;
     }
 
 -- ---- more slots

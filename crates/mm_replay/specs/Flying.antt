@@ -4,11 +4,11 @@ use Rattle.mm_page_lists.specs.{ListsOf, IsOnOne, list_at}
 use Rattle.mm_replay.specs.Listed.{AreLists}
 
 -- the number of frames, and those with a request, oldest first
-pub record FlightOf : Type 0 where
+pub record InFlightOf : Type 0 where
   pub frames : ℕ
   pub requests : List ℕ
 
-abbrev pub flight_of : ListsOf → FlightOf
+abbrev pub flight_of : ListsOf → InFlightOf
 flight_of v = record { frames = v.numbers; requests = list_at v.lists 0 }
 
 -- the flags are those of the frames on the list

@@ -8,7 +8,7 @@ use Rattle.mm_replay.specs.declared.pairs.Pairs.{Pairs}
 use Rattle.mm_replay.specs.declared.holdings.Alive.{Alive}
 use Rattle.mm_replay.specs.declared.holdings.Keys.{Keys}
 use Rattle.mm_replay.specs.declared.holdings.Places.{Places}
-use Rattle.mm_replay.specs.Pairs.{found}
+use Rattle.mm_replay.specs.Pairs.{found_pair}
 
 abbrev pub held_of : Option Alive → Held
 held_of None = held.Dead
@@ -29,8 +29,8 @@ no_places _ = None
 
 -- what is known of a key, from a table of private pages and one of shared ones
 unfoldable pub alive_at : Pairs Alive → Pairs Alive → Key → Option Alive
-alive_at pages indices (Private p v) = found pages p.0 v.0
-alive_at pages indices (Shared a i) = found indices a.0 i
+alive_at pages indices (Private p v) = found_pair pages p.0 v.0
+alive_at pages indices (Shared a i) = found_pair indices a.0 i
 
 abbrev pub alive_in : Keys → Key → Option Alive
 alive_in keys k = alive_at keys.pages keys.indices k
@@ -49,4 +49,4 @@ abbrev pub paging_in : Keys → Key → Bool
 paging_in keys k = alive_paging (alive_in keys k)
 
 abbrev pub frames_in : Places → Place → Option Frame
-frames_in places p = found places.frames p.pid.0 p.vpn.0
+frames_in places p = found_pair places.frames p.pid.0 p.vpn.0

@@ -20,17 +20,17 @@ pub use Reading.{read_text, read_thread, read_trim, read_unbind, read_unmap, rea
 pub use Reading.{reading, slot, small, stored_behind, strip, vpn}
 pub use Grids.{HasPlace, Same, Sets, in_leaf, leaf_len}
 unfoldable pub use Grids.{in_leaves}
-pub use Pairs.{Keeps, Writes, at_number, first_of, found, near_number, near_of, one_number, under}
+pub use Pairs.{Keeps, Writes, at_number, first_of, found_pair, near_number, near_of, one_number, under}
 unfoldable pub use Pairs.{either_way, mapped, near_part}
 pub use Holdings.{Stays, Written, alive_in, alive_paging, frames_in, held_of, no_keys, no_paging}
 pub use Holdings.{no_places, paging_in, stands_in}
 unfoldable pub use Holdings.{alive_at}
 pub use Listed.{AreLists, Kept, Off, belongs, free_alone, is_changed_page, is_owned, no_lists}
-pub use Listed.{record_of, table_of}
-pub use Slotted.{AreApartFrom, IsLowestIn, without_slot}
+pub use Listed.{record_of, table_from_lists}
+pub use Slotted.{AreApartFrom, IsLowestIn, without_kept_slot}
 pub use Sound.{IsEmptyFrame, SoundReplay, frame}
 pub use Looking.{IsBehind, frame_at, frames_on}
 pub use Replaying.{flagged}
-pub use Flying.{AreFlagged, FlightOf, flight_of}
+pub use Flying.{AreFlagged, InFlightOf, flight_of}
 pub use declared.four_lists.FrameList.{FrameList}
 pub use declared.holdings.Alive.{Alive}

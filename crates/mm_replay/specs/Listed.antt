@@ -12,16 +12,16 @@ free_alone xs = [] ∷ xs ∷ [] ∷ [] ∷ []
 abbrev pub no_lists : ℕ → ListsOf
 no_lists count = record { numbers = 0; lists = replicate count [] }
 
-abbrev pub lists_of : ℕ → Option ListsOf → ListsOf
-lists_of count None = no_lists count
-lists_of count (Some v) = v
+abbrev pub lists_or_empty : ℕ → Option ListsOf → ListsOf
+lists_or_empty count None = no_lists count
+lists_or_empty count (Some v) = v
 
 pub record AreLists (count : ℕ) (v : ListsOf) : Type 0 where
   pub counted : length v.lists ≡ count
   pub apart : AreApart v
 
-abbrev pub table_of : List Record → ListsOf → FrameTable
-table_of records v = record {
+abbrev pub table_from_lists : List Record → ListsOf → FrameTable
+table_from_lists records v = record {
   records = records;
   zeroed = list_at v.lists 0;
   free = list_at v.lists 1;

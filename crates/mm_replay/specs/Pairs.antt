@@ -49,5 +49,5 @@ either_way near far a b = first_of (near a b) (far a b)
 abbrev pub near_of : {X : Type 0} → Pairs X → ℕ → ℕ → Option X
 near_of pairs = near_part (in_leaves pairs.near.leaves.items)
 
-abbrev pub found : {X : Type 0} → Pairs X → ℕ → ℕ → Option X
-found pairs a b = either_way (near_of pairs) (mapped pairs.far) a b
+abbrev pub found_pair : {X : Type 0} → Pairs X → ℕ → ℕ → Option X
+found_pair pairs a b = either_way (near_of pairs) (mapped pairs.far) a b

@@ -15,10 +15,10 @@ IsLowestIn free None = free_count free ≡ 0
 IsLowestIn free (Some s) = IsLowest free s
 
 -- the slots without the one that is kept apart
-abbrev pub without_slot : List Bool → Option ℕ → List Bool
-without_slot free None = free
-without_slot free (Some s) = slice_set free s false
+abbrev pub without_kept_slot : List Bool → Option ℕ → List Bool
+without_kept_slot free None = free
+without_kept_slot free (Some s) = slice_set free s false
 
 pub record AreApartFrom (free : List Bool) (lowest : Option ℕ) (others : List Bool) : Type 0 where
   pub is_lowest : IsLowestIn free lowest
-  pub others_are : others ≡ without_slot free lowest
+  pub others_are : others ≡ without_kept_slot free lowest

@@ -37,13 +37,13 @@ pub(crate) struct FrameLists<const COUNT: u32> {
 
 impl<const COUNT: u32> Model for FrameLists<COUNT> {
     ghost use Rattle.mm_page_lists.specs.{ListsOf};
-    ghost use Rattle.mm_replay.specs.Listed.{AreLists, lists_of};
+    ghost use Rattle.mm_replay.specs.Listed.{AreLists, lists_or_empty};
 
     ghost Value = { ListsOf };
 
-    ghost view = { λ s. lists_of COUNT s.lists };
+    ghost view = { λ s. lists_or_empty COUNT s.lists };
 
-    ghost invariant = { λ s. AreLists COUNT (lists_of COUNT s.lists) };
+    ghost invariant = { λ s. AreLists COUNT (lists_or_empty COUNT s.lists) };
 }
 
 #[tactic(auto, using(crate::proofs::Fresh::fresh))]

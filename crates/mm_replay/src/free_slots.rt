@@ -1,7 +1,7 @@
 ghost use Rattle.std.specs.Prelude.{◌≡◌, ◌+◌, ◌-◌, ◌<◌, ◌≤◌, ◌^◌, true, false, [], ◌++◌, length, replicate, OnOk, OnErr, IfOk, Some, slice_get, slice_index_or, slice_set};
 ghost use Rattle.mm_move_rules.specs.{is_lowest, freed};
 ghost use Rattle.mm_slots.specs.{free_count};
-ghost use Rattle.mm_replay.specs.Slotted.{no_slots, IsLowestIn, without_slot};
+ghost use Rattle.mm_replay.specs.Slotted.{no_slots, IsLowestIn, without_kept_slot};
 
 use crate::values::{flag_at, flags, put, set_at};
 use mm_slots::Slots;
@@ -57,7 +57,7 @@ impl SlotTree {
     /// Takes the lowest free slot, if any is free.
     fn take(&mut self) -> Option<u32>
         ensures lowest { IsLowestIn self.old.free result }
-        ensures taken { self.new.free ≡ without_slot self.old.free result }
+        ensures taken { self.new.free ≡ without_kept_slot self.old.free result }
     {
         let slot = self.slots.as_mut()?.take()?;
         Some(slot.0)

@@ -17,9 +17,9 @@ pub(crate) struct InFlight {
 }
 
 impl Model for InFlight {
-    ghost use Rattle.mm_replay.specs.Flying.{FlightOf, flight_of, AreFlagged};
+    ghost use Rattle.mm_replay.specs.Flying.{InFlightOf, flight_of, AreFlagged};
 
-    ghost Value = { FlightOf };
+    ghost Value = { InFlightOf };
 
     ghost view = { λ s. flight_of s.list };
 

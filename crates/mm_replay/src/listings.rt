@@ -29,12 +29,12 @@ fn push_all(lists: &mut FrameLists<4>, n: u32)
 }
 
 impl Listing {
-    ghost use Rattle.mm_replay.specs.Listings.{table, IsListingKept, IsOff};
+    ghost use Rattle.mm_replay.specs.Listings.{listed_table, IsListingKept, IsOff};
 
     /// No frames, and no memory.
     pub(crate) fn none(alloc: Global) -> Listing
         ensures kept { IsListingKept result }
-        ensures table { table result ≡ free_table 0 }
+        ensures table { listed_table result ≡ free_table 0 }
     {
         Listing {
             records: Vec::new(alloc),
@@ -45,7 +45,7 @@ impl Listing {
     /// All frames are free, in rising order.
     pub(crate) fn new(alloc: Global, frames: u32) -> Result<Listing, NoMemory>
         ensures kept { IfOk result IsListingKept }
-        ensures table { IfOk result (λ s. table s ≡ free_table frames) }
+        ensures table { IfOk result (λ s. listed_table s ≡ free_table frames) }
     {
         let records = vec![in alloc; blank(); frames as usize]?;
         let mut lists = FrameLists::new(alloc, frames)?;
@@ -55,7 +55,7 @@ impl Listing {
 
     /// The record of a frame; that of a frame that holds nothing, where there is no such frame.
     pub(crate) fn record(&self, f: u32) -> Record
-        ensures { result ≡ record_at (table self.now) f }
+        ensures { result ≡ record_at (listed_table self.now) f }
     {
         match self.records.get(f as usize) {
             Some(r) => *r,
@@ -67,8 +67,8 @@ impl Listing {
     pub(crate) fn set(&mut self, f: u32, r: Record)
         requires { IsOff self.old f }
         ensures off { IsOff self.new f }
-        ensures table { table self.new ≡ with_record (table self.old) f r }
-        ensures now { record_at (table self.new) f ≡ r }
+        ensures table { listed_table self.new ≡ with_record (listed_table self.old) f r }
+        ensures now { record_at (listed_table self.new) f ≡ r }
     {
         set_at(&mut self.records, f, r);
     }
@@ -79,8 +79,8 @@ impl Listing {
         requires inside { list < 4 }
         requires first { number_at self.old.lists.lists list 0 ≡ Some f }
         ensures off { IsOff self.new f }
-        ensures belongs { belongs (record_at (table self.new) f) list ≡ true }
-        ensures table { table self.new ≡ first_taken (table self.old) list }
+        ensures belongs { belongs (record_at (listed_table self.new) f) list ≡ true }
+        ensures table { listed_table self.new ≡ first_taken (listed_table self.old) list }
     {
         self.lists.pop_front(list);
     }
@@ -88,9 +88,9 @@ impl Listing {
     /// A frame with an owner leaves its list, if it is on one.
     pub(crate) fn leave(&mut self, f: u32)
         requires kept { IsListingKept self.old }
-        requires owned { is_some (record_at (table self.old) f).owner ≡ true }
+        requires owned { is_some (record_at (listed_table self.old) f).owner ≡ true }
         ensures off { IsOff self.new f }
-        ensures table { table self.new ≡ off_lists (table self.old) f }
+        ensures table { listed_table self.new ≡ off_lists (listed_table self.old) f }
     {
         if is_idle(&self.record(f)) {
             self.lists.unlink(f);
@@ -101,9 +101,9 @@ impl Listing {
     pub(crate) fn put(&mut self, list: u32, f: u32)
         requires off { IsOff self.old f }
         requires inside { list < 4 }
-        requires belongs { belongs (record_at (table self.old) f) list ≡ true }
+        requires belongs { belongs (record_at (listed_table self.old) f) list ≡ true }
         ensures kept { IsListingKept self.new }
-        ensures table { table self.new ≡ put_behind (table self.old) list f }
+        ensures table { listed_table self.new ≡ put_behind (listed_table self.old) list f }
     {
         self.lists.push_back(list, f);
     }
@@ -114,7 +114,7 @@ impl Listing {
         requires busy { is_idle r ≡ false }
         requires owned { is_owned r ≡ true }
         ensures kept { IsListingKept self.new }
-        ensures table { table self.new ≡ with_record (table self.old) f r }
+        ensures table { listed_table self.new ≡ with_record (listed_table self.old) f r }
     {
         self.set(f, r);
     }
@@ -123,7 +123,7 @@ impl Listing {
     pub(crate) fn free(&mut self, f: u32)
         requires off { IsOff self.old f }
         ensures kept { IsListingKept self.new }
-        ensures table { table self.new ≡ to_free (table self.old) f }
+        ensures table { listed_table self.new ≡ to_free (listed_table self.old) f }
     {
         self.set(f, blank());
         self.put(FREE, f);
@@ -135,7 +135,8 @@ impl Listing {
         requires owner { is_some r.owner ≡ true }
         requires owned { is_owned r ≡ true }
         ensures kept { IsListingKept self.new }
-        ensures table { table self.new ≡ settled (with_record (table self.old) f r) f }
+        ensures table { listed_table self.new
+            ≡ settled (with_record (listed_table self.old) f r) f }
     {
         self.set(f, r);
         if is_idle(&r) {

@@ -18,10 +18,10 @@ pub(crate) struct Pairs<T> {
 }
 
 impl<T: Copy + Drop> Pairs<T> {
-    ghost use Rattle.mm_replay.specs.Pairs.{near_of, found, Keeps};
+    ghost use Rattle.mm_replay.specs.Pairs.{near_of, found_pair, Keeps};
 
     pub(crate) fn new(alloc: Global) -> Pairs<T>
-        ensures { (a b : ℕ) → found result a b ≡ None }
+        ensures { (a b : ℕ) → found_pair result a b ≡ None }
     {
         Pairs {
             near: Grid::new(alloc),
@@ -45,7 +45,7 @@ impl<T: Copy + Drop> Pairs<T> {
 
     /// The value of two numbers, if any.
     pub(crate) fn get(&self, a: u32, b: u32) -> Option<T>
-        ensures { result ≡ found self.now a b }
+        ensures { result ≡ found_pair self.now a b }
     {
         match self.near_value(a, b) {
             Some(value) => Some(value),
@@ -55,8 +55,9 @@ impl<T: Copy + Drop> Pairs<T> {
 
     /// Two numbers have the value from now on.
     pub(crate) fn insert(&mut self, a: u32, b: u32, value: T) -> Result<(), NoMemory>
-        ensures ok { OnOk result (Writes (found self.old) (found self.new) a b (Some value)) }
-        ensures err { OnErr result (Keeps (found self.old) (found self.new)) }
+        ensures ok { OnOk result
+            (Writes (found_pair self.old) (found_pair self.new) a b (Some value)) }
+        ensures err { OnErr result (Keeps (found_pair self.old) (found_pair self.new)) }
     {
         match leaf_number(&self.near, &mut self.budget, a, b) {
             Some(n) => self.near.set(n, value),
@@ -69,8 +70,8 @@ impl<T: Copy + Drop> Pairs<T> {
 
     /// Two numbers that have a value have this one from now on.
     pub(crate) fn change(&mut self, a: u32, b: u32, value: T)
-        requires { IsSome (found self.old a b) }
-        ensures { Writes (found self.old) (found self.new) a b (Some value) }
+        requires { IsSome (found_pair self.old a b) }
+        ensures { Writes (found_pair self.old) (found_pair self.new) a b (Some value) }
     {
         match filled_number(&self.near, a, b) {
             Some(n) => self.near.put(n as usize, Some(value)),
@@ -85,8 +86,8 @@ impl<T: Copy + Drop> Pairs<T> {
 
     /// Two numbers have no value from now on. Answers the one that they had, if any.
     pub(crate) fn remove(&mut self, a: u32, b: u32) -> Option<T>
-        ensures value { result ≡ found self.old a b }
-        ensures removed { Writes (found self.old) (found self.new) a b None }
+        ensures value { result ≡ found_pair self.old a b }
+        ensures removed { Writes (found_pair self.old) (found_pair self.new) a b None }
     {
         let far = self.far.remove(&one_number(a, b));
         match remove_near(&mut self.near, a, b) {

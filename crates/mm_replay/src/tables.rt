@@ -3,7 +3,7 @@ ghost use Rattle.mm_replay.specs.Looking.{frames_on, IsBehind};
 ghost use Rattle.mm_move_rules.specs.{record_at, is_first, is_empty, is_on, is_read, has_request, taken_for_read, after_clear, after_steal, after_give};
 ghost use Rattle.mm_move_rules.specs.{after_read, after_bad, after_map, after_unmap, after_soil, after_write, after_drop, free_table, settled, to_free};
 ghost use Rattle.mm_move_rules.specs.{with_record};
-ghost use Rattle.mm_replay.specs.Listings.{table, IsListingKept, IsOff};
+ghost use Rattle.mm_replay.specs.Listings.{listed_table, IsListingKept, IsOff};
 ghost use Rattle.mm_replay.specs.Sound.{Listed};
 
 use crate::four_lists::{FREE, FrameList, MODIFIED, STANDBY, ZEROED};
@@ -23,11 +23,11 @@ pub(crate) struct Table {
 
 impl Model for Table {
     ghost use Rattle.mm_move_rules.specs.{FrameTable};
-    ghost use Rattle.mm_replay.specs.Listings.{table, IsListingKept};
+    ghost use Rattle.mm_replay.specs.Listings.{listed_table, IsListingKept};
 
     ghost Value = { FrameTable };
 
-    ghost view = { λ t. table t.listing };
+    ghost view = { λ t. listed_table t.listing };
 
     ghost invariant = { λ t. IsListingKept t.listing };
 }
@@ -269,10 +269,11 @@ impl Table {
 #[tactic(auto, using(crate::proofs::Placing::placing))]
 fn take_for_read(listing: &mut Listing, f: u32)
     requires kept { IsListingKept listing.old }
-    requires first { (is_first f (table listing.old).free ||
-        (is_empty (table listing.old).free && is_first f (table listing.old).zeroed)) ≡ true }
+    requires first { (is_first f (listed_table listing.old).free ||
+        (is_empty (listed_table listing.old).free
+        && is_first f (listed_table listing.old).zeroed)) ≡ true }
     ensures off { IsOff listing.new f }
-    ensures table { table listing.new ≡ taken_for_read (table listing.old) }
+    ensures table { listed_table listing.new ≡ taken_for_read (listed_table listing.old) }
 {
     if listing.lists.front(FREE).is_none() {
         listing.take_first(ZEROED, f);

@@ -7,14 +7,14 @@ use Rattle.std.proofs.lemmas.Option.{slice_get-map}
 use Rattle.std.proofs.lemmas.List.Folds.{list_any-append}
 use Rattle.mm_types.specs.{Frame}
 use Rattle.mm_types.proofs.{set_cases, differ, or_true}
-use Rattle.mm_requests.specs.{Waiting, FlightOf, HoldsRequests, IsKept, AreDistinct, NoneWaitsFrom, is_for, is_in, without, nth_oldest, ended}
+use Rattle.mm_requests.specs.{Waiting, FlightOf, HoldsRequests, IsKept, AreDistinct, NoneWaitsFrom, is_for, is_requested, without, nth_oldest, ended}
 use Rattle.mm_requests.specs.declared.flights.Waiting.TheVariants as waiting
 
 -- ---- membership
 
-in_at : (frames : List ℕ) (k f : ℕ) → slice_get frames k ≡ Some f → is_in f frames ≡ true
+in_at : (frames : List ℕ) (k f : ℕ) → slice_get frames k ≡ Some f → is_requested f frames ≡ true
 in_at [] k f e = cc
-in_at (x ∷ xs) zero f e = let same : x ≡ f = cc in ap (λ b. b || is_in f xs) (eq-eqb x f same)
+in_at (x ∷ xs) zero f e = let same : x ≡ f = cc in ap (λ b. b || is_requested f xs) (eq-eqb x f same)
 in_at (x ∷ xs) (suc k) f e = ap (λ b. (x == f) || b) (in_at xs k f e) ∙ or_true (x == f)
 
 -- a frame stands at one place alone
@@ -22,43 +22,43 @@ pub apart_at : (frames : List ℕ) → AreDistinct frames → (i j f : ℕ) → 
 apart_at [] d i j f e h = cc
 apart_at (x ∷ xs) d zero zero f e h = refl
 apart_at (x ∷ xs) d zero (suc j) f e h =
-    let same : x ≡ f = cc in let bad : true ≡ false = sym (in_at xs j f h) ∙ ap (λ k. is_in k xs) (sym same) ∙ d.0 in cc
+    let same : x ≡ f = cc in let bad : true ≡ false = sym (in_at xs j f h) ∙ ap (λ k. is_requested k xs) (sym same) ∙ d.0 in cc
 apart_at (x ∷ xs) d (suc i) zero f e h =
-    let same : x ≡ f = cc in let bad : true ≡ false = sym (in_at xs i f e) ∙ ap (λ k. is_in k xs) (sym same) ∙ d.0 in cc
+    let same : x ≡ f = cc in let bad : true ≡ false = sym (in_at xs i f e) ∙ ap (λ k. is_requested k xs) (sym same) ∙ d.0 in cc
 apart_at (x ∷ xs) d (suc i) (suc j) f e h = ap suc (apart_at xs d.1 i j f e h)
 
 -- ---- a request begins
 
-pub distinct_more : (frames : List ℕ) (f : ℕ) → AreDistinct frames → is_in f frames ≡ false → AreDistinct (frames ++ f ∷ [])
+pub distinct_more : (frames : List ℕ) (f : ℕ) → AreDistinct frames → is_requested f frames ≡ false → AreDistinct (frames ++ f ∷ [])
 distinct_more [] f d new = (refl, tt)
 distinct_more (x ∷ xs) f d new =
-    let parts = or_parts (x == f) (is_in f xs) new in
+    let parts = or_parts (x == f) (is_requested f xs) new in
     let back : (f == x) ≡ false = differ f x (λ e. eqb-false x f parts.0 (sym e)) in
-    let here : is_in x (xs ++ f ∷ []) ≡ false =
-    list_any-append (λ y. y == x) xs (f ∷ []) ∙ ap (λ b. b || is_in x (f ∷ [])) d.0 ∙ ap (λ b. b || false) back in
+    let here : is_requested x (xs ++ f ∷ []) ≡ false =
+    list_any-append (λ y. y == x) xs (f ∷ []) ∙ ap (λ b. b || is_requested x (f ∷ [])) d.0 ∙ ap (λ b. b || false) back in
     (here, distinct_more xs f d.1 parts.1)
 
-in_more : (frames : List ℕ) (f g : ℕ) → is_in g frames ≡ true → is_in g (frames ++ f ∷ []) ≡ true
-in_more frames f g e = list_any-append (λ y. y == g) frames (f ∷ []) ∙ ap (λ b. b || is_in g (f ∷ [])) e
+in_more : (frames : List ℕ) (f g : ℕ) → is_requested g frames ≡ true → is_requested g (frames ++ f ∷ []) ≡ true
+in_more frames f g e = list_any-append (λ y. y == g) frames (f ∷ []) ∙ ap (λ b. b || is_requested g (f ∷ [])) e
 
 -- ---- a request ends
 
-by_first : (b : Bool) (x f g : ℕ) (xs : List ℕ) → (x == f) ≡ b → g ≢ f → is_in g (cond (not b) (x ∷ xs) xs) ≡ ((x == g) || is_in g xs)
+by_first : (b : Bool) (x f g : ℕ) (xs : List ℕ) → (x == f) ≡ b → g ≢ f → is_requested g (cond (not b) (x ∷ xs) xs) ≡ ((x == g) || is_requested g xs)
 by_first false x f g xs e apart = refl
 by_first true x f g xs e apart =
     let same = eqb-true x f e in
-    sym (ap (λ b. b || is_in g xs) (differ x g (λ h. apart (sym h ∙ same))))
+    sym (ap (λ b. b || is_requested g xs) (differ x g (λ h. apart (sym h ∙ same))))
 
-in_without : (frames : List ℕ) (f g : ℕ) → g ≢ f → is_in g (without f frames) ≡ is_in g frames
+in_without : (frames : List ℕ) (f g : ℕ) → g ≢ f → is_requested g (without f frames) ≡ is_requested g frames
 in_without [] f g apart = refl
 in_without (x ∷ xs) f g apart = by_first (x == f) x f g (without f xs) refl apart ∙ ap (λ b. (x == g) || b) (in_without xs f g apart)
 
-none_without : (frames : List ℕ) (f g : ℕ) → is_in g frames ≡ false → is_in g (without f frames) ≡ false
+none_without : (frames : List ℕ) (f g : ℕ) → is_requested g frames ≡ false → is_requested g (without f frames) ≡ false
 none_without [] f g none = refl
 none_without (x ∷ xs) f g none =
-    let parts = or_parts (x == g) (is_in g xs) none in
+    let parts = or_parts (x == g) (is_requested g xs) none in
     let rest = none_without xs f g parts.1 in
-    cond_both (not (x == f)) (x ∷ without f xs) (without f xs) (λ ys. is_in g ys ≡ false) (λ e. or_from (x == g) (is_in g (without f xs)) parts.0 rest) (λ e. rest)
+    cond_both (not (x == f)) (x ∷ without f xs) (without f xs) (λ ys. is_requested g ys ≡ false) (λ e. or_from (x == g) (is_requested g (without f xs)) parts.0 rest) (λ e. rest)
 
 pub distinct_without : (frames : List ℕ) (f : ℕ) → AreDistinct frames → AreDistinct (without f frames)
 distinct_without [] f d = tt
@@ -142,7 +142,7 @@ none_asked m t ws x inside idle before k w le lt e = elim (set_cases ws t k x w 
 -- ---- what the type keeps
 
 module _ (frames : List ℕ) (waits : List Waiting) (h : IsKept frames waits) where
-  pub kept_begun : (f : ℕ) → is_in f frames ≡ false → IsKept (frames ++ f ∷ []) waits
+  pub kept_begun : (f : ℕ) → is_requested f frames ≡ false → IsKept (frames ++ f ∷ []) waits
   kept_begun f new = record {
     distinct = distinct_more frames f h.distinct new;
     awaited = λ t g e. in_more frames f g.0 (h.awaited t g e);

@@ -17,8 +17,8 @@ abbrev pub frame_number : Frame → ℕ
 frame_number f = f.0
 
 -- the frame has a request
-abbrev pub is_in : ℕ → List ℕ → Bool
-is_in f frames = list_any (λ x. x == f) frames
+abbrev pub is_requested : ℕ → List ℕ → Bool
+is_requested f frames = list_any (λ x. x == f) frames
 
 -- the others, in their order
 abbrev pub without : ℕ → List ℕ → List ℕ
@@ -41,11 +41,11 @@ ended f ok (waiting.For g) = if g.0 == f then (if ok then waiting.Done else wait
 ended f ok waiting.Done = waiting.Done
 ended f ok waiting.Failed = waiting.Failed
 
-abbrev pub wait_of : Waiting → Wait
-wait_of waiting.Nothing = wait.None
-wait_of (waiting.For g) = wait.InFlight
-wait_of waiting.Done = wait.Done
-wait_of waiting.Failed = wait.Failed
+abbrev pub wait_shown : Waiting → Wait
+wait_shown waiting.Nothing = wait.None
+wait_shown (waiting.For g) = wait.InFlight
+wait_shown waiting.Done = wait.Done
+wait_shown waiting.Failed = wait.Failed
 
 -- the thread waits for a request in flight
 abbrev pub is_for : Waiting → Bool
@@ -69,12 +69,12 @@ pub record HasRoom (depth frames room threads : ℕ) : Type 0 where
 -- no frame is in the list twice
 abbrev pub AreDistinct : List ℕ → Type 0
 AreDistinct [] = Unit {0}
-AreDistinct (f ∷ fs) = (is_in f fs ≡ false) × AreDistinct fs
+AreDistinct (f ∷ fs) = (is_requested f fs ≡ false) × AreDistinct fs
 
 -- each thread that waits waits for a frame in flight
 abbrev pub AreAwaited : List ℕ → List Waiting → Type 0
 AreAwaited frames waits = (t : ℕ) (f : Frame) → slice_get waits t ≡ Some (waiting.For f) →
-    is_in f.0 frames ≡ true
+    is_requested f.0 frames ≡ true
 
 -- what the type keeps
 pub record IsKept (frames : List ℕ) (waits : List Waiting) : Type 0 where

@@ -1,5 +1,5 @@
 ghost use Rattle.std.specs.Prelude.{◌≡◌, ◌-◌, ◌<◌, ◌≤◌, [], ◌∷◌, ◌++◌, length, map, not, replicate, IsTrue, IfOk, slice_get, slice_set, Some, option_map, true, false, filter, ◌==◌, vec_len, vec_capacity};
-ghost use Rattle.mm_requests.specs.Requests.{FlightOf, HoldsRequests, is_in, without, nth_oldest, place_in, ended, wait_of, frame_number, is_for, NoneWaitsFrom};
+ghost use Rattle.mm_requests.specs.Requests.{FlightOf, HoldsRequests, is_requested, without, nth_oldest, place_in, ended, wait_shown, frame_number, is_for, NoneWaitsFrom};
 
 use mm_types::{Frame, NoMemory, THREADS, Tid, Wait};
 use std::alloc::Global;
@@ -73,7 +73,7 @@ impl Flight {
     /// A request of a frame that has none begins; there are fewer than the depth.
     pub fn begin(&mut self, f: Frame)
         requires fewer { length self.old.frames < self.old.depth }
-        requires new { is_in f.0 self.old.frames ≡ false }
+        requires new { is_requested f.0 self.old.frames ≡ false }
         ensures { self.new ≡ record self.old { frames = self.old.frames ++ f.0 ∷ [] } }
     {
         match self.frames.push(f) {
@@ -132,7 +132,7 @@ impl Flight {
     /// The request of a frame in flight ends, well or not, and so does the wait of each thread for
     /// it.
     pub fn end(&mut self, f: Frame, ok: bool)
-        requires { is_in f.0 self.old.frames ≡ true }
+        requires { is_requested f.0 self.old.frames ≡ true }
         ensures { self.new ≡ record self.old {
           frames = without f.0 self.old.frames;
           waits = map (ended f.0 ok) self.old.waits;
@@ -144,7 +144,7 @@ impl Flight {
 
     /// The thread waits for the request of a frame in flight from now on.
     pub fn wait(&mut self, t: Tid, f: Frame)
-        requires { is_in f.0 self.old.frames ≡ true }
+        requires { is_requested f.0 self.old.frames ≡ true }
         ensures waits { self.new ≡ record self.old {
           waits = slice_set self.old.waits t.0 (Waiting.For f);
         } }
@@ -158,7 +158,7 @@ impl Flight {
 
     /// How the thread's wait stands.
     pub fn outcome(&self, t: Tid) -> Wait
-        ensures { slice_get (map wait_of self.now.waits) t.0 ≡ Some result }
+        ensures { slice_get (map wait_shown self.now.waits) t.0 ≡ Some result }
     {
         match self.waits[t.0 as usize] {
             Waiting::Nothing => Wait::None,

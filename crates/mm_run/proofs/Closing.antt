@@ -6,7 +6,8 @@ use Rattle.mm_move_rules.specs.{Log, IsFrontOf}
 use Rattle.mm_move_rules.proofs.{front_of_then, gave_nothing}
 use Rattle.mm_run.specs.{Ending, Stage, NotBegun, Running, outset, log_of, DecidedLine, HoldMovesOf, last_stage, answers_in, moves_of, last_text}
 use Rattle.mm_run.specs.{status_of, CameFrom, Comes, FaultCounts, IsBlamed, SettlesRun, StandsAt, fault_counts_with, most_kept, outside, stand, ClosesRun}
-use Rattle.mm_run.specs.{DeviceLeft, Left, StageLeaves, IsLeft, IsLogLeft, SinkSeen, GaveMoves, Drops, Closed, is_over, IsAccounted, Around}
+use Rattle.mm_run.specs.{DeviceLeft, Left, StageLeaves, IsLeft, IsLogLeft, GaveMoves, Drops, Closed, is_over, IsAccounted, Around}
+use Rattle.mm_io.specs.{SinkSeen}
 use Rattle.mm_run.specs.{EndsTelling, GaveAll, begun_at}
 use Rattle.mm_run.specs.declared.endings.Ending.TheVariants as ending
 use Rattle.mm_run.specs.Ran.{Ran}

@@ -9,7 +9,7 @@ use Rattle.mm_types.specs.{MachineOf, Event}
 use Rattle.mm_types.specs.declared.events.Event.TheVariants as line
 use Rattle.mm_script.specs.{IsInRange, fields_of, are_joined}
 use Rattle.mm_generate.specs.{outputs, seeded, outputs_from, Drawn, drawn, drawn_events, drawn_of_kind, write_drawn, read_drawn, address_drawn, script_of}
-use Rattle.mm_dispatch.specs.{is_machine}
+use Rattle.mm_script.specs.{is_machine}
 use Rattle.mm_run.specs.{IsLaterEvent, AreLater}
 
 later_of : (e : Event) → AllByRecursion IsInRange (fields_of e) → IsTrue (are_joined e) → is_machine e ≡ false → IsLaterEvent e

@@ -12,7 +12,8 @@ use Rattle.mm_line_moves.specs.{first_move}
 use Rattle.mm_run.specs.declared.endings.Ending.TheVariants as ending
 use Rattle.mm_run.specs.{reading_of, Outset, Stage, NotBegun, Running, HasNoted, log_of, IsDecided, MachineIsMade, DecidedLine, IsNextLine, WentOn}
 use Rattle.mm_run.specs.{Ending, CameToEnd, HoldsLine, IsUnanswered, outside, stand}
-use Rattle.mm_dispatch.specs.{Scene, is_machine}
+use Rattle.mm_dispatch.specs.{Scene}
+use Rattle.mm_script.specs.{is_machine}
 use Rattle.mm_run.proofs.Stories.{follows_here, grows_here}
 use Rattle.mm_run.proofs.Stops.{is_line, went_to, came_muted, came_broken, came_memory, came_setup}
 

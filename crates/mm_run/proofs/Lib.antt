@@ -23,6 +23,7 @@ pub mod WrittenPages
 pub mod WatchLines
 pub mod WatchesTold
 pub mod StagesStand
+pub mod OneScript
 pub mod Pairs
 pub use Ends.{accounted, accounted_behind, accounted_memory, blamed_beside, blamed_end, blamed_open}
 pub use Ends.{came_usage}
@@ -47,4 +48,5 @@ pub use Drawn.{script_whole, slice_few, slice_later}
 pub use Tallies.{accounted_unflushed, all_told, all_torn, ran_failed, ran_unflushed}
 pub use FormWords.{bulk_same, form_said, no_numbers, no_run, one_bulk, says_none, two_items}
 pub use WatchesTold.{watches_told}
-pub use StagesStand.{one_log_of_runs, stages_stand}
+pub use OneScript.{one_log_of_runs, one_log_of_scripts}
+pub use StagesStand.{stages_stand}

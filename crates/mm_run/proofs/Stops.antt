@@ -7,7 +7,8 @@ use Rattle.mm_move_rules.specs.{spelled_moves}
 use Rattle.mm_types.proofs.{append_nil, took_none, appended_none}
 use Rattle.mm_io.specs.{FitsLine, with_line_feed, text_of_lines, HasLine, IsLong, Filled}
 use Rattle.mm_io.proofs.{filled_none}
-use Rattle.mm_dispatch.specs.{Scene, is_machine}
+use Rattle.mm_dispatch.specs.{Scene}
+use Rattle.mm_script.specs.{is_machine}
 use Rattle.mm_run.specs.{Stage, Running, HasNoted, Follows, log_of, Ending, reading_of, BreaksLine, DecidedLine, HoldMovesOf, IsNextLine, TornText}
 use Rattle.mm_run.specs.{ClosesRun, BreaksOff, TakesMemory, KeepsAnswers, IsMisplaced, WentOn, CameToEnd, SettlesRun, StandsAt, InputEndsAt, most_kept, outside}
 use Rattle.mm_run.specs.{stand}

@@ -11,7 +11,7 @@ use Rattle.mm_line_moves.specs.{AnsweredAlike}
 use Rattle.mm_dispatch.specs.{IsFailure}
 use Rattle.mm_run.specs.Reading.{reading_of}
 use Rattle.mm_run.specs.Scenes.{Stage, Running, HasNoted, Follows, log_of}
-use Rattle.mm_run.specs.Steps.{IsDecided, SameWorld}
+use Rattle.mm_run.specs.Steps.{IsDecided}
 use Rattle.mm_run.specs.Written.{AnsweredLine}
 
 -- A line that was decided: its text without the line feed, its event, its answer, its moves, and
@@ -69,14 +69,25 @@ pub record IsMuted (n : ℕ) (old : Stage) (l : DecidedLine) : Type 0 where
   pub next : IsNextLine n old l
   pub failed : (log_of l.after).failed ≡ true
 
--- Two runs went on from the same stage by the same line, with the same answer and world; where it
--- is a `flush`, over devices that answered alike.
-pub record GoesAlike (l m : DecidedLine) : Type 0 where
-  pub before : l.before ≡ m.before
+-- ---- two runs
+
+-- Two runs went on by the same line, with the same answer; where it is an access or a `flush`, over
+-- devices that answered alike.
+pub record IsAnsweredAlike (l m : DecidedLine) : Type 0 where
   pub event : l.event ≡ m.event
   pub answer : l.answer ≡ m.answer
-  pub world : SameWorld l.after m.after
   pub devices : AnsweredAlike l.event l.moves m.moves
+
+-- Two runs of as many lines, line by line.
+abbrev pub RunsAlike : List DecidedLine → List DecidedLine → Type 0
+RunsAlike [] [] = Unit {0}
+RunsAlike (l ∷ ls) (m ∷ ms) = IsAnsweredAlike l m × RunsAlike ls ms
+RunsAlike _ _ = ⊥
+
+-- Two runs went on so from the same stage.
+pub record GoesAlike (l m : DecidedLine) : Type 0 where
+  pub before : l.before ≡ m.before
+  pub alike : IsAnsweredAlike l m
 
 -- ---- failures
 

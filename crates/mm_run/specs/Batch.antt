@@ -7,7 +7,8 @@ use Rattle.mm_script.specs.{IsWellFormed}
 use Rattle.mm_run.specs.declared.bulk.Tally.{Tally}
 use Rattle.mm_run.specs.declared.endings.Ending.{Ending}
 use Rattle.mm_run.specs.declared.endings.Ending.TheVariants as ending
-use Rattle.mm_dispatch.specs.{is_machine, Scene}
+use Rattle.mm_dispatch.specs.{Scene}
+use Rattle.mm_script.specs.{is_machine}
 use Rattle.mm_run.specs.Scenes.{Stage, Running}
 use Rattle.mm_run.specs.Steps.{Moved}
 use Rattle.mm_run.specs.Moments.{RunsShort}

@@ -7,13 +7,7 @@ use Rattle.mm_move_rules.specs.{IsFrontOf}
 use Rattle.mm_run.specs.declared.endings.Ending.{Ending}
 use Rattle.mm_run.specs.declared.endings.Ending.TheVariants as ending
 use Rattle.mm_run.specs.Texts.{TornText, status_of, last_text}
-
--- What a sink shows: the bytes that it took and those that it gave on, where told, and its count of
--- faults.
-pub record SinkSeen : Type 0 where
-  pub took : Option Text
-  pub gave : Option Text
-  pub faults : ℕ
+use Rattle.mm_io.specs.{SinkSeen}
 
 -- a sink has failed, or the source
 abbrev pub is_over : Ending → Bool

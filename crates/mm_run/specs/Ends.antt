@@ -7,7 +7,8 @@ use Rattle.mm_io.specs.{with_line_feed}
 use Rattle.mm_move_rules.specs.{Log, IsFrontOf}
 use Rattle.mm_world.specs.{Page, filled}
 use Rattle.mm_devices.specs.{DeviceCall, DeviceOf}
-use Rattle.mm_dispatch.specs.{is_machine, takes_memory}
+use Rattle.mm_dispatch.specs.{takes_memory}
+use Rattle.mm_script.specs.{is_machine}
 use Rattle.mm_run.specs.declared.endings.Ending.{Ending}
 use Rattle.mm_run.specs.declared.endings.Ending.TheVariants as ending
 use Rattle.mm_run.specs.Scenes.{Stage, NotBegun, Running, Follows}

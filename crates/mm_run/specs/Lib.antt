@@ -21,11 +21,12 @@ pub use Reading.{is_machine_word, reading_of}
 pub use Scenes.{Follows, HasNoted, NotBegun, Outset, Running, Stage, log_of, outset, replay_of}
 pub use Scenes.{with_flush}
 pub use Steps.{BreaksLine, DecidesLine, HoldsUnchanged, IsDecided, MachineBegins, MachineIsMade}
-pub use Steps.{Moved, NoneFailed, SameWorld, StageNotes, StageStands, StageStepped, tells_paging}
+pub use Steps.{Moved, NoneFailed, StageNotes, StageStands, StageStepped, tells_paging}
 pub use Written.{AnsweredLine, GivesWritten, WriteMarks, keeps_after, no_write_marks}
 pub use Written.{write_marks_after, write_marks_over}
-pub use Answered.{AreAnswered, AreFaultless, DecidedLine, GoesAlike, HoldMovesOf, IsNextLine, MadeNamed}
-pub use Answered.{answered_lines, answers_in, last_stage, moves_of, texts_of}
+pub use Answered.{AreAnswered, AreFaultless, DecidedLine, GoesAlike, HoldMovesOf}
+pub use Answered.{IsAnsweredAlike, IsNextLine, MadeNamed, RunsAlike, answered_lines, answers_in}
+pub use Answered.{last_stage, moves_of, texts_of}
 pub use Texts.{IsFront, IsFrontWithin, ToldText, TornText, WroteText, last_text, most_kept}
 pub use Texts.{status_of}
 pub use Ends.{BreaksAt, BreaksOff, ClosesRun, DeviceLeft, IsLeft, IsLogLeft, Left, StageLeaves}
@@ -48,8 +49,8 @@ pub use Moments.{fault_counts_of, moment, outside_of}
 pub use Settings.{AreOpened, ComesTo, HoldsMachine, Setting}
 pub use Starting.{HasStart, Opened, StartsFrom, left_behind}
 pub use Seen.{counts_seen, device_seen, input_seen, left_seen, moment_seen, open_failed}
-pub use Seen.{output_seen, outset_seen, outside_seen, seen, setting, sink_seen, world_seen}
-pub use Closing.{Closed, Drops, GaveMoves, SinkSeen, is_over}
+pub use Seen.{output_seen, outset_seen, outside_seen, seen, setting, world_seen}
+pub use Closing.{Closed, Drops, GaveMoves, is_over}
 pub use Faults.{IsAccounted}
 pub use declared.bulk.Tally.{Tally}
 pub use declared.endings.Ending.{Ending}

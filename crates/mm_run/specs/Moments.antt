@@ -9,7 +9,8 @@ use Rattle.mm_run.specs.declared.endings.Ending.TheVariants as ending
 use Rattle.mm_run.specs.Scenes.{Stage, Running, log_of}
 use Rattle.mm_run.specs.Steps.{BreaksLine}
 use Rattle.mm_run.specs.Ends.{TakesMemory}
-use Rattle.mm_run.specs.Story.{Outside, FaultCounts, WentOn, CameToEnd, IsBlamed, outside, stand, fault_counts_with, most_lines}
+use Rattle.mm_run.specs.Story.{Outside, FaultCounts, WentOn, CameToEnd, IsBlamed, outside, stand, fault_counts_with}
+use Rattle.mm_script.specs.{most_lines}
 
 -- ---- what stands at one moment
 

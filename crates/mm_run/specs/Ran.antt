@@ -16,7 +16,8 @@ use Rattle.mm_run.specs.Scenes.{Stage, NotBegun, Running, outset, replay_of}
 use Rattle.mm_run.specs.Answered.{DecidedLine, AreAnswered, HoldMovesOf, last_stage, texts_of, answers_in, moves_of, answered_lines, AreFaultless}
 use Rattle.mm_run.specs.Written.{GivesWritten}
 use Rattle.mm_run.specs.Texts.{IsFrontWithin, TornText, status_of, last_text, most_kept}
-use Rattle.mm_run.specs.Story.{SettlesRun, most_lines}
+use Rattle.mm_run.specs.Story.{SettlesRun}
+use Rattle.mm_script.specs.{most_lines}
 use Rattle.mm_run.specs.Ends.{Left, StageLeaves, ClosesRun}
 
 -- What stands around a run.

@@ -3,7 +3,7 @@
 use Rattle.std.specs.Prelude.{ℕ, zero, suc, Bool, if◌then◌else◌, Result, Ok, Err, codes, bytes_eq, ◌==◌, ◌&&◌, ◌||◌, take, length, slice_index}
 use Rattle.mm_types.specs.{Text, Event}
 use Rattle.mm_script.specs.{LineFault, without_return, parse}
-use Rattle.mm_dispatch.specs.{is_machine}
+use Rattle.mm_script.specs.{is_machine}
 
 -- the first word is `machine`
 abbrev pub is_machine_word : Text → Bool

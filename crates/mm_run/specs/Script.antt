@@ -7,7 +7,8 @@ use Rattle.mm_run.specs.declared.endings.Ending.{Ending}
 use Rattle.mm_run.specs.declared.endings.Ending.TheVariants as ending
 use Rattle.mm_run.specs.Answered.{LineSays, texts_of, answers_in}
 use Rattle.mm_run.specs.Texts.{status_of, last_text}
-use Rattle.mm_run.specs.Story.{SettlesRun, most_lines}
+use Rattle.mm_run.specs.Story.{SettlesRun}
+use Rattle.mm_script.specs.{most_lines}
 use Rattle.mm_run.specs.Ran.{Around, Ran}
 
 -- After n lines, each line is in the grammar and says this event.

@@ -9,7 +9,7 @@ use Rattle.mm_dispatch.specs.{World, line_number, loans, scene}
 use Rattle.mm_run.specs.Scenes.{Outset, Running, outset}
 use Rattle.mm_run.specs.Ends.{DeviceLeft, Left, device_left, left_with}
 use Rattle.mm_run.specs.Ran.{Around, around}
-use Rattle.mm_run.specs.Closing.{SinkSeen}
+use Rattle.mm_io.specs.{SinkSeen}
 use Rattle.mm_run.specs.Faults.{OpenFailed}
 use Rattle.mm_run.specs.Story.{Outside, FaultCounts, outside, fault_counts_with}
 use Rattle.mm_run.specs.Moments.{Input, Output, Moment, WorldSeen, moment}
@@ -79,9 +79,6 @@ abbrev pub seen : {S O M P F : Type 0} →
     S → O → M → P → F → Around
 seen s o m p f source out moves paging files =
     around (s.left source) (o.taken out) (o.given out) (left_seen m p f moves paging files)
-
-abbrev pub sink_seen : {K : Type 0} → SinkGhosts K → K → SinkSeen
-sink_seen k x = record { took = k.taken x; gave = k.given x; faults = k.faults x }
 
 -- a device that could not be opened
 abbrev pub open_failed : {P F : Type 0} → DeviceGhosts P → DeviceGhosts F → P → P → F → F → Type 0

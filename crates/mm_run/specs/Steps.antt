@@ -11,7 +11,8 @@ use Rattle.mm_world.specs.Report.{Report}
 use Rattle.mm_devices.specs.{NoneLogged, empty_block, DeviceOf}
 use Rattle.mm_store.specs.{told_of, none_told}
 use Rattle.mm_line_moves.specs.{Agrees, DevicesHold, StandsAlways, first_move}
-use Rattle.mm_dispatch.specs.{asks_frames, Scene, ToldBeside, Breaks as WorldBreaks, is_machine}
+use Rattle.mm_dispatch.specs.{asks_frames, Scene, ToldBeside, Breaks as WorldBreaks}
+use Rattle.mm_script.specs.{is_machine}
 use Rattle.mm_run.specs.Scenes.{Outset, Stage, NotBegun, Running, replay_of, log_of}
 
 -- ---- the first line
@@ -94,15 +95,11 @@ abbrev pub HoldsUnchanged : Stage → Type 0
 HoldsUnchanged (NotBegun o) = Unit {0}
 HoldsUnchanged (Running s) = DevicesHold s.world s.behind.life s.behind.slots s.blocks
 
--- Regions are laid out, handles have numbers of 32 bits, and page-file keys live.
+-- Regions are laid out, handles have numbers of 32 bits, page-file keys live, the replay's state is
+-- sound, and the keys that live in it are the world's.
 abbrev pub StageStands : Stage → Type 0
 StageStands (NotBegun o) = Unit {0}
 StageStands (Running s) = StandsAlways s.world s.behind.life
-
--- Two stages show the same world.
-abbrev pub SameWorld : Stage → Stage → Type 0
-SameWorld (Running s) (Running z) = s.world ≡ z.world
-SameWorld _ _ = ⊥
 
 -- Moves that are legal one after another, and by whose text the log grew; where the sink fails in
 -- it, by a front of it.

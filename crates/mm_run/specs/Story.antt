@@ -8,16 +8,13 @@ use Rattle.mm_io.specs.{FitsLine, NoFeed, with_line_feed, text_of_lines}
 use Rattle.mm_script.specs.{IsLine as IsLineFor}
 use Rattle.mm_run.specs.declared.endings.Ending.{Ending}
 use Rattle.mm_run.specs.declared.endings.Ending.TheVariants as ending
-use Rattle.mm_dispatch.specs.{is_machine}
+use Rattle.mm_script.specs.{is_machine}
 use Rattle.mm_run.specs.Reading.{reading_of}
 use Rattle.mm_run.specs.Scenes.{Stage, Follows, log_of}
 use Rattle.mm_run.specs.Answered.{DecidedLine, AreAnswered, HoldMovesOf, last_stage, texts_of, answers_in}
 use Rattle.mm_run.specs.Texts.{IsFrontWithin, most_kept}
 use Rattle.mm_run.specs.Ends.{Left, StageLeaves, ClosesRun}
-
--- the most lines of a script
-abbrev pub most_lines : ℕ
-most_lines = 1000000
+use Rattle.mm_script.specs.{most_lines}
 
 -- What stands around the lines: the bytes left in the source and those that the sink of answers
 -- took, where told, and the answers that are kept for it.

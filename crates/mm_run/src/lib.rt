@@ -12,5 +12,8 @@ mod readings;
 mod top;
 
 pub use endings::Ending;
-pub use laws::{lines_of_runs_have_one_log, stages_of_runs_stand, watches_give_written_pages};
+pub use laws::{
+    lines_of_runs_have_one_log, scripts_have_one_log, stages_of_runs_stand,
+    watches_give_written_pages,
+};
 pub use top::run;

@@ -2,7 +2,8 @@ ghost use Rattle.std.specs.Prelude.{◌≡◌, ◌≢◌, ◌≤◌, ◌+◌, �
 ghost use Rattle.mm_types.specs.{decimal};
 ghost use Rattle.mm_io.specs.{CountsFaults};
 ghost use Rattle.mm_run.specs.{IsScriptOf, IsComplete, IsFault, IsRunForm, RanOrRefused, ToldText, last_text, Closed, is_over, IsAccounted, IsBulk};
-ghost use Rattle.mm_run.specs.{IsNoBulk, BulkRanOrRefused, counts_seen, open_failed, seen, sink_seen};
+ghost use Rattle.mm_run.specs.{IsNoBulk, BulkRanOrRefused, counts_seen, open_failed, seen};
+ghost use Rattle.mm_io.specs.{sink_seen};
 ghost use Rattle.mm_generate.specs.{script_of};
 
 use crate::answers::Kept;

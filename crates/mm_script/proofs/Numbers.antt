@@ -8,8 +8,8 @@ use Rattle.mm_types.specs.{Text, Event}
 use Rattle.mm_text.specs.{number_of}
 use Rattle.mm_script.specs.{LineFault, Keyword, are_joined, read, Number, AnyNumber, PidNumber, TidNumber, FlagNumber, End, Then, ReadOrWrite, within}
 use Rattle.mm_script.specs.{number_in, pid_from, tid_from, flag_from, shape_of, joint_fault, Rest, word_as, ended_words, ◌>>=◌, MakesFromValues}
-use Rattle.mm_script.specs.{make_of, event_in, line_of, Range, leading, behind, with_numbers, numbers_as, numbers_in, is_end, is_free, is_plain}
-use Rattle.mm_script.specs.{IfTrue, ranges_of, whole_of, made_with}
+use Rattle.mm_script.specs.{make_of, event_in, line_of, Range, leading, behind, with_numbers, numbers_as, numbers_for, is_end, is_unjoined, is_plain}
+use Rattle.mm_script.specs.{IfTrue, ranges_for, whole_of, made_with}
 use Rattle.mm_script.specs.Shape.{Shape}
 use Rattle.mm_script.proofs.Binds.{bind_ok}
 use Rattle.mm_script.proofs.Narrowed.{mapped, as_number}
@@ -99,26 +99,26 @@ module _ (k : Keyword) (rest : Rest) where
   end_made (Then kind s) make e h w = cc
   end_made (ReadOrWrite s t) make e h w = cc
 
-module _ (k : Keyword) (rs : List Range) (old : Rest) (plain : is_plain k ≡ true) (told : IfTrue (is_plain k) (rs ≡ ranges_of k)) (few : length rs ≤ 6) where
+module _ (k : Keyword) (rs : List Range) (old : Rest) (plain : is_plain k ≡ true) (told : IfTrue (is_plain k) (rs ≡ ranges_for k)) (few : length rs ≤ 6) where
   given : (P : Type 0) → IfTrue (is_plain k) P → P
   given P p = subst (λ b. IfTrue b P) plain p
 
-  after : (r : Result (List ℕ × Rest) LineFault) → numbers_in rs old ≡ r → line_of k old ≡ (r >>= λ y. event_in k (behind (shape_of k)) (with_numbers (shape_of k) (make_of k) y.0 0) y.1)
+  after : (r : Result (List ℕ × Rest) LineFault) → numbers_for rs old ≡ r → line_of k old ≡ (r >>= λ y. event_in k (behind (shape_of k)) (with_numbers (shape_of k) (make_of k) y.0 0) y.1)
   unfolding line_of
   after r h =
-      let ranges : rs ≡ ranges_of k = given (rs ≡ ranges_of k) told in
-      let room : length (ranges_of k) ≤ 6 = subst (λ (xs : List Range). length xs ≤ 6) ranges few in
+      let ranges : rs ≡ ranges_for k = given (rs ≡ ranges_for k) told in
+      let room : length (ranges_for k) ≤ 6 = subst (λ (xs : List Range). length xs ≤ 6) ranges few in
       by_leading k (shape_of k) (make_of k) 0 (0 ∷ 0 ∷ 0 ∷ 0 ∷ 0 ∷ 0 ∷ []) old (omega arith)
-      ∙ ap (λ r. r >>= λ y. event_in k (behind (shape_of k)) (with_numbers (shape_of k) (make_of k) y.0 0) y.1) (ap (λ xs. numbers_in xs old) (sym ranges) ∙ h)
+      ∙ ap (λ r. r >>= λ y. event_in k (behind (shape_of k)) (with_numbers (shape_of k) (make_of k) y.0 0) y.1) (ap (λ xs. numbers_for xs old) (sym ranges) ∙ h)
 
   -- a number is missing, or out of its range
-  pub number_missed : (f : LineFault) → numbers_in rs old ≡ Err f → line_of k old ≡ Err f
+  pub number_missed : (f : LineFault) → numbers_for rs old ≡ Err f → line_of k old ≡ Err f
   number_missed f h = after (Err f) h
 
-  module _ (ns : List ℕ) (mid : Rest) (numbers : numbers_in rs old ≡ Ok (ns, mid)) where
+  module _ (ns : List ℕ) (mid : Rest) (numbers : numbers_for rs old ≡ Ok (ns, mid)) where
     -- a word too many
     pub end_missed : (f : LineFault) → Err f ≡ ended_words mid → line_of k old ≡ Err f
-    end_missed f h = after (Ok (ns, mid)) numbers ∙ end_fault k mid (behind (shape_of k)) (with_numbers (shape_of k) (make_of k) ns 0) f (and_parts (is_end (behind (shape_of k))) (is_free k) plain).0 (sym h)
+    end_missed f h = after (Ok (ns, mid)) numbers ∙ end_fault k mid (behind (shape_of k)) (with_numbers (shape_of k) (make_of k) ns 0) f (and_parts (is_end (behind (shape_of k))) (is_unjoined k) plain).0 (sym h)
 
     pub numbers_made : (e : Event) → Ok tt ≡ ended_words mid → IfTrue (is_plain k) (made_with k ns ≡ Some e) → line_of k old ≡ Ok e
     numbers_made e h made = after (Ok (ns, mid)) numbers ∙ end_made k mid (behind (shape_of k)) (with_numbers (shape_of k) (make_of k) ns 0) e (sym h) (given (made_with k ns ≡ Some e) made)

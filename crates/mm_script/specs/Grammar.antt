@@ -1,12 +1,21 @@
 -- The grammar: which lines stand for which event, with one rule for each form of a line.
 -- Profile, "Script".
-use Rattle.std.specs.Prelude.{◌≡◌, ℕ, ◌+◌, ◌*◌, ◌%◌, Bool, true, nat_le, if◌then◌else◌, List, [], ◌∷◌, ◌++◌, length, codes, ◌⊎◌, IsTrue}
+use Rattle.std.specs.Prelude.{◌≡◌, ℕ, ◌+◌, ◌*◌, ◌%◌, Bool, true, false, nat_le, if◌then◌else◌, List, [], ◌∷◌, ◌++◌, length, codes, ◌⊎◌, IsTrue}
 use Rattle.mm_types.specs.{Text, spaced, Pid, Tid, Device, Direction, Event, page_size}
 use Rattle.mm_types.specs.declared.devices.Device.TheVariants as device
 use Rattle.mm_types.specs.declared.devices.Direction.TheVariants as direction
 use Rattle.mm_types.specs.declared.events.AccessSpec.TheVariants as spec
 use Rattle.mm_types.specs.declared.events.Event.TheVariants as line
 use Rattle.mm_script.specs.Field.{Field, Exactly, Decimal, Hex, Bytes, Named, NamedOrDash, EachSpells}
+
+-- the line that tells the machine, which comes first and never again
+abbrev pub is_machine : Event → Bool
+is_machine (line.Machine machine) = true
+is_machine _ = false
+
+-- the most lines of a script
+abbrev pub most_lines : ℕ
+most_lines = 1000000
 
 abbrev pub pid_field : Pid → Field
 pid_field pid = Decimal 0 255 pid.0

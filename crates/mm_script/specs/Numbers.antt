@@ -54,8 +54,8 @@ numbers_as (r ∷ rs) i ns rest =
     numbers_as rs (i + 1) (slice_set ns i x.0) x.1
 
 -- the numbers behind a keyword, in places that were 0
-abbrev pub numbers_in : List Range → Rest → Result (List ℕ × Rest) LineFault
-numbers_in rs rest = numbers_as rs 0 (0 ∷ 0 ∷ 0 ∷ 0 ∷ 0 ∷ 0 ∷ []) rest
+abbrev pub numbers_for : List Range → Rest → Result (List ℕ × Rest) LineFault
+numbers_for rs rest = numbers_as rs 0 (0 ∷ 0 ∷ 0 ∷ 0 ∷ 0 ∷ 0 ∷ []) rest
 
 -- What a function wrote, and what is left, is what reading gives.
 abbrev pub PutsNumbers : Result (Unit {0}) LineFault → List ℕ → Rest →
@@ -67,22 +67,22 @@ abbrev pub is_end : Shape → Bool
 is_end End = true
 is_end _ = false
 
-abbrev pub is_free : Keyword → Bool
-is_free keyword.Machine = false
-is_free keyword.Process = false
-is_free keyword.Read = false
-is_free _ = true
+abbrev pub is_unjoined : Keyword → Bool
+is_unjoined keyword.Machine = false
+is_unjoined keyword.Process = false
+is_unjoined keyword.Read = false
+is_unjoined _ = true
 
 -- whether only numbers stand behind a keyword, under no joint condition
 abbrev pub is_plain : Keyword → Bool
-is_plain k = is_end (behind (shape_of k)) && is_free k
+is_plain k = is_end (behind (shape_of k)) && is_unjoined k
 
 abbrev pub IfTrue : Bool → Type 0 → Type 0
 IfTrue true P = P
 IfTrue false P = Unit {0}
 
-abbrev pub ranges_of : Keyword → List Range
-ranges_of k = leading (shape_of k)
+abbrev pub ranges_for : Keyword → List Range
+ranges_for k = leading (shape_of k)
 
 -- the event that is made where nothing is left
 abbrev pub whole_of : (s : Shape) → MakesFromValues s Event → Option Event

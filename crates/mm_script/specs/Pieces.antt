@@ -9,15 +9,15 @@ use Rattle.mm_script.specs.Field.{NamedOrDash}
 use Rattle.mm_script.specs.Grammar.{device_field, direction_field}
 use Rattle.mm_script.specs.Printed.{print}
 
-abbrev pub shown : Piece → Text
-shown (piece.Small n) = decimal n
-shown (piece.Decimal n) = decimal n
-shown (piece.Hex n) = hex_short n
-shown (piece.Bytes bytes) = byte_pairs bytes.now
-shown (piece.Name name) = name.now
-shown (piece.NameOrDash name) = print (NamedOrDash name.now)
-shown (piece.Device device) = print (device_field device)
-shown (piece.Direction direction) = print (direction_field direction)
+abbrev pub text_of_piece : Piece → Text
+text_of_piece (piece.Small n) = decimal n
+text_of_piece (piece.Decimal n) = decimal n
+text_of_piece (piece.Hex n) = hex_short n
+text_of_piece (piece.Bytes bytes) = byte_pairs bytes.now
+text_of_piece (piece.Name name) = name.now
+text_of_piece (piece.NameOrDash name) = print (NamedOrDash name.now)
+text_of_piece (piece.Device device) = print (device_field device)
+text_of_piece (piece.Direction direction) = print (direction_field direction)
 
 -- how many bytes a piece takes at most, its space among them
 abbrev pub width : Piece → ℕ
@@ -30,9 +30,9 @@ width (piece.NameOrDash name) = 33
 width (piece.Device device) = 7
 width (piece.Direction direction) = 6
 
-abbrev pub room : List Piece → ℕ
-room [] = 0
-room (p ∷ ps) = width p + room ps
+abbrev pub width_of_all : List Piece → ℕ
+width_of_all [] = 0
+width_of_all (p ∷ ps) = width p + width_of_all ps
 
 -- whether a line is about memory of its own
 abbrev pub is_memory : Event → Bool
@@ -57,12 +57,12 @@ is_view (line.Flush _ _ _) = true
 is_view _ = false
 
 -- whether a line is about an access
-abbrev pub is_access : Event → Bool
-is_access (line.Read _ _ _) = true
-is_access (line.Write _ _ _) = true
-is_access (line.Exec _ _) = true
-is_access (line.Probe _ _) = true
-is_access (line.Resume _) = true
-is_access (line.Io _) = true
-is_access (line.Begin _ _ _) = true
-is_access _ = false
+abbrev pub is_about_access : Event → Bool
+is_about_access (line.Read _ _ _) = true
+is_about_access (line.Write _ _ _) = true
+is_about_access (line.Exec _ _) = true
+is_about_access (line.Probe _ _) = true
+is_about_access (line.Resume _) = true
+is_about_access (line.Io _) = true
+is_about_access (line.Begin _ _ _) = true
+is_about_access _ = false

@@ -4,7 +4,7 @@ ghost use Rattle.mm_script.specs.Place.{fault_at};
 ghost use Rattle.mm_script.specs.Keywords.{keyword_of};
 ghost use Rattle.mm_script.specs.Reading.{word_as, ended_words, whole_line, Gives};
 ghost use Rattle.mm_script.specs.Cursor.{TakesNextWord};
-ghost use Rattle.mm_script.specs.Numbers.{numbers_in, PutsNumbers};
+ghost use Rattle.mm_script.specs.Numbers.{numbers_for, PutsNumbers};
 
 use crate::keywords::Keyword;
 use crate::{LineFault, values};
@@ -169,7 +169,7 @@ impl<'a> Fields<'a> {
     ) -> Result<(), LineFault>
         requires few { length ranges.now ≤ MOST_NUMBERS }
         requires words { self.old.number + length ranges.now ≤ MOST_WORDS }
-        ensures value { PutsNumbers result numbers.new self.new (numbers_in ranges.now self.old) }
+        ensures value { PutsNumbers result numbers.new self.new (numbers_for ranges.now self.old) }
         ensures counts { OnOk result (self.new.number ≡ self.old.number + length ranges.now) }
     {
         *numbers = [0; MOST_NUMBERS];

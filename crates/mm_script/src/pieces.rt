@@ -4,7 +4,7 @@ ghost use Rattle.mm_text.specs.{following};
 ghost use Rattle.mm_script.specs.Field.{NamedOrDash};
 ghost use Rattle.mm_script.specs.Grammar.{device_field, direction_field};
 ghost use Rattle.mm_script.specs.Printed.{print};
-ghost use Rattle.mm_script.specs.Pieces.{shown, width, room};
+ghost use Rattle.mm_script.specs.Pieces.{text_of_piece, width, width_of_all};
 
 use mm_text::{LineBuf, put_bytes, put_decimal, put_hex_short};
 use mm_types::{ByteBuf, Device, Direction, Name};
@@ -26,16 +26,16 @@ pub enum Piece<'a> {
 /// The keyword and the words behind it.
 #[tactic(auto, using(crate::proofs::Room::spaced_line))]
 pub fn put_line(out: &mut LineBuf, keyword: &[u8], pieces: &[Piece])
-    requires { length out.old + length keyword.now + room pieces.now ≤ 256 }
-    ensures { out.new ≡ out.old ++ spaced keyword.now (map shown pieces.now) }
+    requires { length out.old + length keyword.now + width_of_all pieces.now ≤ 256 }
+    ensures { out.new ≡ out.old ++ spaced keyword.now (map text_of_piece pieces.now) }
 {
     out.push_slice(keyword);
     put_pieces(out, pieces);
 }
 
 fn put_pieces(out: &mut LineBuf, pieces: &[Piece])
-    requires { length out.old + room pieces.now ≤ 256 }
-    ensures { out.new ≡ out.old ++ following (map shown pieces.now) }
+    requires { length out.old + width_of_all pieces.now ≤ 256 }
+    ensures { out.new ≡ out.old ++ following (map text_of_piece pieces.now) }
 {
     for piece in pieces {
         put_piece(out, *piece);
@@ -46,7 +46,7 @@ fn put_pieces(out: &mut LineBuf, pieces: &[Piece])
 #[tactic(auto, using(crate::proofs::Room::widths))]
 fn put_piece(out: &mut LineBuf, piece: Piece)
     requires { length out.old + width piece ≤ 256 }
-    ensures text { out.new ≡ out.old ++ 0x20 ∷ shown piece.entry }
+    ensures text { out.new ≡ out.old ++ 0x20 ∷ text_of_piece piece.entry }
     ensures len { length out.new ≤ length out.old + width piece.entry }
 {
     out.push(b' ');

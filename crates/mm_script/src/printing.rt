@@ -1,6 +1,6 @@
 ghost use Rattle.std.specs.Prelude.{◌≡◌, ◌≤◌, ◌++◌, [], length};
 ghost use Rattle.mm_types.specs.declared.events.Event.TheVariants as line;
-ghost use Rattle.mm_script.specs.{IfTrue, IsLine, IsWellFormed, printed, is_access, is_memory, is_view};
+ghost use Rattle.mm_script.specs.{IfTrue, IsLine, IsWellFormed, printed, is_about_access, is_memory, is_view};
 
 use crate::pieces::Piece::{Bytes, Decimal, Device, Direction, Hex, Name, NameOrDash, Small};
 use crate::pieces::put_line;
@@ -80,7 +80,7 @@ fn print_view(event: &Event, out: &mut LineBuf)
 /// The lines of accesses, and of what threads wait for.
 fn print_access(event: &Event, out: &mut LineBuf)
     requires { length out.old ≤ 96 }
-    ensures { IfTrue (is_access event.now) (out.new ≡ out.old ++ printed event.now) }
+    ensures { IfTrue (is_about_access event.now) (out.new ≡ out.old ++ printed event.now) }
 {
     print_as!(out, event,
         Event::Read { pid, addr, len } => b"read" [Small(pid.0), Hex(*addr), Decimal(*len)],

@@ -32,7 +32,8 @@ fn put_two(n: u64, text: &mut Vec<u8>) -> Result<(), NoMemory>
     requires { n < 100 }
     ensures { OnOk result (text.new.items ≡ text.old.items ++ two_digits n) }
 {
-    text.extend_from_slice(&[digit(n / 10), digit(n % 10)])?;
+    text.push(digit(n / 10))?;
+    text.push(digit(n % 10))?;
     Ok(())
 }
 
@@ -42,7 +43,9 @@ fn put_three(n: u64, text: &mut Vec<u8>) -> Result<(), NoMemory>
     requires { n < 1000 }
     ensures { OnOk result (text.new.items ≡ text.old.items ++ three_digits n) }
 {
-    text.extend_from_slice(&[digit(n / 100), digit(n / 10 % 10), digit(n % 10)])?;
+    text.push(digit(n / 100))?;
+    text.push(digit(n / 10 % 10))?;
+    text.push(digit(n % 10))?;
     Ok(())
 }
 
@@ -145,9 +148,11 @@ fn put_address(vpn: Vpn, text: &mut Vec<u8>) -> Result<(), NoMemory>
     requires { vpn.0 < 2 ^ 20 }
     ensures { OnOk result (text.new.items ≡ text.old.items ++ address_text vpn.0) }
 {
-    put_words(b" (", text)?;
+    text.push(b' ')?;
+    text.push(b'(')?;
     put_hex(vpn.0 * 4096, text)?;
-    put_words(b")", text)
+    text.push(b')')?;
+    Ok(())
 }
 
 fn put_addressed(vpn: Vpn, text: &mut Vec<u8>) -> Result<(), NoMemory>

@@ -1,12 +1,11 @@
 -- What is written of a form, each exactly.
-use Rattle.std.proofs.Common.{◌≡◌, ℕ, Bool, true, false, List, Option, Some, None, refl, sym, ap, ◌∙◌, subst, ◌⊎◌, inl, inr}
+use Rattle.std.proofs.Common.{◌≡◌, ℕ, Bool, true, false, List, Option, Some, None, refl, sym, ap, ◌∙◌, subst}
 use Rattle.std.specs.Prelude.{Result, Ok, Err, option_map}
 use Rattle.mm_types.specs.{Text, Move}
-use Rattle.mm_log_walk.proofs.{says_exactly}
-use Rattle.mm_log_walk.specs.{SaysExactly, Said, said_by, Answers, RestOf, beside, HasBytes, HasLines, FileFault, Sought}
+use Rattle.mm_log_walk.specs.{Said, said_from_first, Answers, RestOf, beside, HasBytes, HasLines, FileFault, Sought}
 use Rattle.mm_move_rules.specs.{unstarted}
 use Rattle.mm_show.specs.{PageTexts, PageOf, form_said, form_sought, form_why, sums_said, FileIs, sums_text, sum_rest, SumTeller, Form, FileHas}
-use Rattle.mm_show.specs.{IfGood, IsRefusedRow, LacksFile, files_at, asked_word, observed, whole_page, page_rest, PageTeller, page_said, whole_page_text}
+use Rattle.mm_show.specs.{IfGood, page_rest, PageTeller, page_said, whole_page_text}
 
 abbrev read_as : Option (List Text) → Result (Option (List Text)) FileFault
 read_as lines = Ok lines
@@ -41,19 +40,19 @@ file_bytes items true left (Some v) o f none has =
     ap Some (bytes f.0 refl) ∙ sym f.1.1
 
 -- what a teller says from the first move on is what its form says
-pub said_is : (rest : RestOf) (said : Said) → ((whole : Bool) (moves : List Move) → rest whole unstarted moves ≡ said whole moves) → said_by rest ≡ said
+pub said_is : (rest : RestOf) (said : Said) → ((whole : Bool) (moves : List Move) → rest whole unstarted moves ≡ said whole moves) → said_from_first rest ≡ said
 said_is rest said e = λ i. λ whole. λ moves. e whole moves i
 
 -- the sums, of a log that ends well or does not
-pub said_sums : (t : SumTeller) → ((moves : List Move) → sum_rest t true unstarted moves ≡ sums_text moves) → said_by (sum_rest t) ≡ sums_said
+pub said_sums : (t : SumTeller) → ((moves : List Move) → sum_rest t true unstarted moves ≡ sums_text moves) → said_from_first (sum_rest t) ≡ sums_said
 said_sums t e = λ i. λ whole. λ moves. by whole moves i
   where
-    by : (whole : Bool) (moves : List Move) → said_by (sum_rest t) whole moves ≡ sums_said whole moves
+    by : (whole : Bool) (moves : List Move) → said_from_first (sum_rest t) whole moves ≡ sums_said whole moves
     by true moves = e moves
     by false moves = refl
 
 -- a page says nothing of a log that does not end well
-pub said_page : (t : PageTeller) (p : PageOf) (script answers : Option (List Text)) → ((moves : List Move) → page_rest t true unstarted moves ≡ whole_page_text p script answers moves) → said_by (page_rest t) ≡ page_said p script answers
+pub said_page : (t : PageTeller) (p : PageOf) (script answers : Option (List Text)) → ((moves : List Move) → page_rest t true unstarted moves ≡ whole_page_text p script answers moves) → said_from_first (page_rest t) ≡ page_said p script answers
 said_page t p script answers e = λ i. λ whole. λ moves. by whole moves i
   where
     by : (whole : Bool) (moves : List Move) → page_rest t whole unstarted moves ≡ page_said p script answers whole moves
@@ -69,12 +68,6 @@ told_as f g p script answers left left' took took' sought said status e asked sa
     (subst (λ (x : Form). Answers left left' took took' (beside script answers) sought (form_said x p script answers) (form_why x) status) (sym e)
     (subst (λ (y : Said). Answers left left' took took' (beside script answers) sought y (form_why g) status) same h))
 
--- what is shown of a log by a form, beside these files
-abbrev pub Shown : Form → PageTexts → List Text → Option Text → Option Text → Option Text → Option Text → Option (List Text) → Option (List Text) → Option Text → ℕ → Type 0
-Shown f page words left left' took took' script answers bytes result =
-    IfGood (observed script answers bytes) took took' result
-    (λ packed. Answers left left' took took' (beside script answers) (form_sought f) (form_said f (whole_page page (asked_word words 1) packed) script answers) (form_why f) result) ⊎ LacksFile (files_at f) words took took' result
-
 -- what is said with the packed text, of each
 pub good_map : (r : Result Text ℕ) (took took' : Option Text) (result : ℕ) (A B : Text → Type 0) → ((text : Text) → A text → B text) → IfGood r took took' result A → IfGood r took took' result B
 good_map (Ok text) took took' result A B f h = f text h
@@ -83,17 +76,3 @@ good_map (Err n) took took' result A B f h = h
 -- observations that are good, and a row that is not
 pub good_told : (r : Result Text ℕ) (text : Text) (took took' : Option Text) (result : ℕ) (A : Text → Type 0) → r ≡ Ok text → A text → IfGood r took took' result A
 good_told r text took took' result A e h = subst (λ (x : Result Text ℕ). IfGood x took took' result A) (sym e) h
-
-pub good_refused : (first : ℕ) (words : List Text) (r : Result Text ℕ) (n : ℕ) (took took' : Option Text) (result : ℕ) (A : Text → Type 0) → r ≡ Err n → IsRefusedRow n took took' result → IfGood r took took' result A ⊎ LacksFile first words took took' result
-good_refused first words r n took took' result A e (inl h) = inl (subst (λ (x : Result Text ℕ). IfGood x took took' result A) (sym e) h)
-good_refused first words r n took took' result A e (inr h) = inr (inl (inr h))
-
-pub shown_exactly : (f : Form) (page : PageTexts) (words : List Text) (left left' took took' : Option Text) (script answers : Option (List Text)) (bytes : Option Text) (result : ℕ)
-    → Shown f page words left left' took took' script answers bytes result
-    → IfGood (observed script answers bytes) took took' result (λ packed. SaysExactly (beside script answers) (form_sought f) (form_said f (whole_page page (asked_word words 1) packed) script answers) (form_why f) left took took' result) ⊎ LacksFile (files_at f) words took took' result
-shown_exactly f page words left left' took took' script answers bytes result (inl h) =
-    inl (good_map (observed script answers bytes) took took' result
-    (λ (packed : Text). Answers left left' took took' (beside script answers) (form_sought f) (form_said f (whole_page page (asked_word words 1) packed) script answers) (form_why f) result)
-    (λ (packed : Text). SaysExactly (beside script answers) (form_sought f) (form_said f (whole_page page (asked_word words 1) packed) script answers) (form_why f) left took took' result)
-    (λ packed t. says_exactly (beside script answers) (form_sought f) (form_said f (whole_page page (asked_word words 1) packed) script answers) (form_why f) left left' took took' result t) h)
-shown_exactly f page words left left' took took' script answers bytes result (inr h) = inr h

@@ -3,7 +3,9 @@ pub mod Paged
 pub mod Following
 pub mod Summed
 pub mod Exactness
+pub mod Reached
 pub use Paged.{page_taken}
 pub use Summed.{few_none, sum_ended, sum_none, sum_taken}
-pub use Exactness.{Shown, file_bytes, file_lines, good_map, good_refused, good_told, said_is}
-pub use Exactness.{said_page, said_sums, shown_exactly, told_as}
+pub use Exactness.{file_bytes, file_lines, good_map, good_told, said_is, said_page, said_sums}
+pub use Exactness.{told_as}
+pub use Reached.{lacks, refused_row, shows_exactly, shows_log, was_read}

@@ -3,14 +3,14 @@ use Rattle.std.proofs.Common.{◌≡◌, Bool, true, false, List, [], ◌∷◌,
 use Rattle.mm_types.specs.{Text, Move}
 use Rattle.mm_move_rules.specs.{FrameLife, after_move}
 use Rattle.mm_move_classes.specs.{MarksOf, marks_after, marks_of, class_of, next_of, Class, move_data, data_from, mark_before}
-use Rattle.mm_log_walk.specs.{pending, class_then, move_of, Pending}
+use Rattle.mm_log_walk.specs.{pending_class, class_then, move_of, Pending}
 use Rattle.mm_show.specs.{classed_data, data_rest, page_rest, PageTeller}
 use Rattle.mm_log_walk.proofs.{class_known}
 
 -- the data that comes
 module _ (l : FrameLife) (v : MarksOf) (p : Option Pending) (m : Move) where
   data_taken : (known behind : Text) (ms : List Move)
-      → ((known ++ classed_data (class_then p (Some m))) ++ mark_before l m) ++ (data_rest (marks_after v m) (Some (pending l v (move_of p) m)) (after_move l m) ms ++ behind)
+      → ((known ++ classed_data (class_then p (Some m))) ++ mark_before l m) ++ (data_rest (marks_after v m) (Some (pending_class l v (move_of p) m)) (after_move l m) ms ++ behind)
       ≡ known ++ (data_rest v p l (m ∷ ms) ++ behind)
   data_taken known behind ms =
       let a : Text = classed_data (class_then p (Some m)) in
@@ -23,7 +23,7 @@ module _ (l : FrameLife) (v : MarksOf) (p : Option Pending) (m : Move) where
       ∙ ap (λ xs. known ++ xs) (sym (append_assoc a (b ++ y) behind ∙ ap (λ xs. a ++ xs) (append_assoc b y behind)))
 
 data_moved : (known known' behind : Text) (l : FrameLife) (v v' : MarksOf) (p p' : Option Pending) (m : Move) → known' ≡ (known ++ classed_data (class_then p (Some m))) ++ mark_before l m
-    → v' ≡ marks_after v m → p' ≡ Some (pending l v (move_of p) m) → (ms : List Move)
+    → v' ≡ marks_after v m → p' ≡ Some (pending_class l v (move_of p) m) → (ms : List Move)
     → known' ++ (data_rest v' p' (after_move l m) ms ++ behind) ≡ known ++ (data_rest v p l (m ∷ ms) ++ behind)
 data_moved known known' behind l v v' p p' m e marks pend ms =
     ap (λ xs. xs ++ (data_rest v' p' (after_move l m) ms ++ behind)) e
@@ -35,7 +35,7 @@ data_moved known known' behind l v v' p p' m e marks pend ms =
 pub page_taken : (t t' : PageTeller) (l : FrameLife) (m : Move) → t'.front.items ≡ t.front.items → t'.behind.items ≡ t.behind.items
     → t'.written.items ≡ (t.written.items ++ classed_data (class_then t.classifier.pending (Some m))) ++ mark_before l m
     → marks_of t'.classifier.marks ≡ marks_after (marks_of t.classifier.marks) m
-    → t'.classifier.pending ≡ Some (pending l (marks_of t.classifier.marks) (move_of t.classifier.pending) m)
+    → t'.classifier.pending ≡ Some (pending_class l (marks_of t.classifier.marks) (move_of t.classifier.pending) m)
     → (whole : Bool) (ms : List Move) → page_rest t' whole (after_move l m) ms ≡ page_rest t whole l (m ∷ ms)
 page_taken t t' l m front behind known marks pend false ms = refl
 page_taken t t' l m front behind known marks pend true ms =

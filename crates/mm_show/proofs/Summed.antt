@@ -7,7 +7,7 @@ use Rattle.mm_types.specs.{Text, Move, LineKind}
 use Rattle.mm_types.specs.declared.moves.Move.TheVariants as move
 use Rattle.mm_move_rules.specs.{FrameLife, unstarted, after_move}
 use Rattle.mm_move_classes.specs.{MarksOf, no_marks, marks_after, classes, is_class, class_count, kind_code, code_of, Class}
-use Rattle.mm_log_walk.specs.{pending, class_then, move_of, class_list, classes_rest, Pending}
+use Rattle.mm_log_walk.specs.{pending_class, class_then, move_of, class_list, classes_rest, Pending}
 use Rattle.mm_show.specs.{is_kind, class_sums, kind_sums, sums_text, code_count, sums_left, of_class, of_kind, AreBounded}
 use Rattle.mm_log_walk.proofs.{classes_taken}
 
@@ -42,10 +42,10 @@ kind_more xs n kd h ms k = omega (arith, bumped xs (kind_code kd) k h, sum_by-co
 pub sums_taken : (classes' classes0 kinds' kinds0 : List ℕ) (l : FrameLife) (v : MarksOf) (p : Option Pending) (m : Move)
     → ((cs : List (Option Class)) (c : Class) → of_class classes' cs c ≡ of_class classes0 (class_list (class_then p (Some m)) ++ cs) c)
     → ((ms : List Move) (k : ℕ) → of_kind kinds' ms k ≡ of_kind kinds0 (m ∷ ms) k) → (ms : List Move)
-    → class_sums (of_class classes' (classes_rest (marks_after v m) (Some (pending l v (move_of p) m)) (after_move l m) ms)) ++ kind_sums (of_kind kinds' ms)
+    → class_sums (of_class classes' (classes_rest (marks_after v m) (Some (pending_class l v (move_of p) m)) (after_move l m) ms)) ++ kind_sums (of_kind kinds' ms)
     ≡ class_sums (of_class classes0 (classes_rest v p l (m ∷ ms))) ++ kind_sums (of_kind kinds0 (m ∷ ms))
 sums_taken classes' classes0 kinds' kinds0 l v p m byclass bykind ms =
-    let come = classes_rest (marks_after v m) (Some (pending l v (move_of p) m)) (after_move l m) ms in
+    let come = classes_rest (marks_after v m) (Some (pending_class l v (move_of p) m)) (after_move l m) ms in
     let f : of_class classes' come ≡ of_class classes0 (classes_rest v p l (m ∷ ms)) =
     λ i. λ c. (byclass come c ∙ ap (λ (cs : List (Option Class)). of_class classes0 cs c) (classes_taken l v p m ms)) i in
     let g : of_kind kinds' ms ≡ of_kind kinds0 (m ∷ ms) = λ i. λ k. bykind ms k i in
@@ -97,7 +97,7 @@ sums_none moves =
 pub sum_taken : (classes0 classes' kinds0 kinds' : List ℕ) (v v' : MarksOf) (p p' : Option Pending) (l : FrameLife) (m : Move)
     → ((cs : List (Option Class)) (c : Class) → of_class classes' cs c ≡ of_class classes0 (class_list (class_then p (Some m)) ++ cs) c)
     → ((ms : List Move) (k : ℕ) → of_kind kinds' ms k ≡ of_kind kinds0 (m ∷ ms) k)
-    → v' ≡ marks_after v m → p' ≡ Some (pending l v (move_of p) m)
+    → v' ≡ marks_after v m → p' ≡ Some (pending_class l v (move_of p) m)
     → (whole : Bool) (ms : List Move) → sums_left classes' kinds' v' p' whole (after_move l m) ms ≡ sums_left classes0 kinds0 v p whole l (m ∷ ms)
 sum_taken classes0 classes' kinds0 kinds' v v' p p' l m byclass bykind marks pend false ms = refl
 sum_taken classes0 classes' kinds0 kinds' v v' p p' l m byclass bykind marks pend true ms =

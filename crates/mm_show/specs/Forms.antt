@@ -154,3 +154,8 @@ has_answers files.Observed = true
 abbrev pub has_observations : Files → Bool
 has_observations files.Observed = true
 has_observations _ = false
+
+-- and of the words that are this form, if any, where it names some
+abbrev pub first_file : Option Form → Option ℕ
+first_file None = None
+first_file (Some f) = if has_script (files_of f) then Some (files_at f) else None

@@ -8,18 +8,21 @@ pub mod Forms
 pub mod Observed
 pub mod Showing
 pub mod Texts
+pub mod Beside
 pub use Words.{class_rows, class_words_row, group_word, move_word}
 pub use Data.{classed_data, data_rest}
 pub use PageRest.{page_rest}
 pub use Sums.{class_sum_row, class_sums, code_count, is_kind, kind_row, kind_sums, sums_text}
 pub use Counted.{AreBounded, of_class, of_kind}
 pub use SumRest.{sum_rest, sums_left}
-pub use Forms.{files_at, files_of, form_of, has_answers, has_observations, has_script, key_asked}
+pub use Forms.{files_at, files_of, first_file, form_of, has_answers, has_observations, has_script, key_asked}
 pub use Forms.{line_asked_for, page_asked, pid_of, private_key_asked, shared_key_asked, asked_word}
 pub use Observed.{FileHas, IfGood, IsRefusedRow, bad_row_text, observed}
-pub use Showing.{FileFailed, FileIs, IsUnread, LacksFile, PageOf, form_said, form_sought, form_why}
+pub use Showing.{FileIs, IsUnread, PageOf, form_said, form_sought, form_why}
 pub use Showing.{page_said, sums_said, unread_text, show_usage_text, whole_page_text}
 pub use Texts.{page_read, whole_page}
+pub use Beside.{FilesBeside, IfRead, SaysBeside, ShowsForm, ShowsLog, files_beside_log}
+pub use Beside.{form_answers, form_exactly}
 pub use declared.data.PageTeller.{PageTeller}
 pub use declared.forms.Form.{Form}
 pub use declared.pages.PageTexts.{PageTexts}

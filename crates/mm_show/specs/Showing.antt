@@ -1,18 +1,17 @@
 -- What each form says of a log.
 -- Profile, "What a log shows".
-use Rattle.std.specs.Prelude.{◌≡◌, ◌⊎◌, ℕ, ◌+◌, Bool, true, false, List, [], ◌∷◌, ◌++◌, Option, Some}
+use Rattle.std.specs.Prelude.{◌≡◌, ◌⊎◌, ℕ, Bool, true, false, List, [], ◌∷◌, ◌++◌, Option, Some}
 use Rattle.std.specs.Prelude.{None, codes}
-use Rattle.mm_types.specs.{Text, Rose, Move}
+use Rattle.mm_types.specs.{Text, Move}
 use Rattle.mm_move_classes.specs.{log_data}
 use Rattle.mm_log_check.specs.{Shows, IsRefusedLog}
-use Rattle.mm_log_walk.specs.{lines_of, total_of, shown_file, shown_line, answer_file, Said, Sought, Why, no_why}
+use Rattle.mm_log_walk.specs.{lines_of, shown_file, shown_line, answer_file, Said, Sought, Why, no_why}
 use Rattle.mm_log_walk.specs.declared.seeking.Sought.TheVariants as sought
 use Rattle.mm_sentences.specs.{why_not}
 use Rattle.mm_reports.specs.{counts_rows, fault_rows, frame_history, key_history, state_rows, use_rows}
 use Rattle.mm_reports.specs.declared.styles.Style.TheVariants as style
 use Rattle.mm_transcripts.specs.{transcript}
 use Rattle.mm_events.specs.{events}
-use Rattle.mm_show.specs.Forms.{asked_word}
 use Rattle.mm_show.specs.Words.{class_rows}
 use Rattle.mm_show.specs.Sums.{sums_text}
 use Rattle.mm_show.specs.declared.forms.Form.{Form}
@@ -94,11 +93,6 @@ FileIs false left lines = lines ≡ None
 FileIs true left lines =
     (text : Text) × ((left ≡ Some (Some text)) × (lines ≡ Some (lines_of text)))
 
--- it was named and could not be opened, or failed
-abbrev pub FileFailed : {F : Type 0} → (F → ℕ) → Bool → Option F → Option F → Type 0
-FileFailed faults false old new = ⊥
-FileFailed faults true old new = (old ≡ None) ⊎ Rose (total_of faults old) (total_of faults new)
-
 abbrev pub unread_text : Text → Text
 unread_text name = codes "cannot read " ++ (name ++ 10 ∷ [])
 
@@ -106,13 +100,6 @@ unread_text name = codes "cannot read " ++ (name ++ 10 ∷ [])
 abbrev pub IsUnread : Text → Option Text → Option Text → ℕ → Type 0
 IsUnread name took took' result =
     Shows took took' (unread_text name) 4 result ⊎ IsRefusedLog took took' result
-
--- one of the files that the words name was not read, of which the first stands at this place
-abbrev pub LacksFile : ℕ → List Text → Option Text → Option Text → ℕ → Type 0
-LacksFile first words took took' result =
-    IsUnread (asked_word words first) took took' result
-    ⊎ (IsUnread (asked_word words (first + 1)) took took' result
-    ⊎ IsUnread (asked_word words (first + 2)) took took' result)
 
 abbrev pub show_usage_text : Text
 show_usage_text =

@@ -12,4 +12,4 @@ mod words;
 
 pub use forms::{Files, Form};
 pub use pages::PageTexts;
-pub use top::run_show;
+pub use top::{first_file, run_show};

@@ -1,11 +1,13 @@
-ghost use Rattle.std.specs.Prelude.{◌≡◌, ◌≢◌, ◌≤◌, ◌⊎◌, ◌+◌, ◌++◌, ◌∷◌, [], ℕ, List, Option, OnOk, true};
+ghost use Rattle.std.specs.Prelude.{◌≡◌, ◌≢◌, ◌⊎◌, ◌+◌, ◌++◌, ◌∷◌, [], ℕ, List, Option, IfOk, OnOk};
 ghost use Rattle.std.specs.Prelude.{Some, map, option_map, string_bytes, None};
 ghost use Rattle.mm_types.specs.{Rose};
-ghost use Rattle.mm_log_check.specs.{IsFaultStatus, Shows, IsRefusedLog};
-ghost use Rattle.mm_log_walk.specs.{Answers, SaysExactly, beside, total_of};
-ghost use Rattle.mm_show.specs.{Form, form_of, asked_word, files_of, has_script, has_answers, has_observations, form_said, form_sought, form_why, FileIs, FileFailed};
-ghost use Rattle.mm_show.specs.{unread_text, files_at, IsUnread, LacksFile, show_usage_text, whole_page};
+ghost use Rattle.mm_io.specs.{sink_seen};
+ghost use Rattle.mm_log_check.specs.{Shows, IsRefusedLog, ReadsLog, WritesText};
+ghost use Rattle.mm_log_walk.specs.{Answers, IsBroken, beside};
+ghost use Rattle.mm_show.specs.{Form, form_of, asked_word, files_of, has_script, has_answers, has_observations, form_said, form_sought, form_why};
+ghost use Rattle.mm_show.specs.{unread_text, files_at, first_file, IsUnread, show_usage_text};
 ghost use Rattle.mm_show.specs.{bad_row_text, FileHas, IfGood, IsRefusedRow, observed, page_read};
+ghost use Rattle.mm_show.specs.{IfRead, ShowsForm, files_beside_log, form_answers, form_exactly};
 
 use crate::forms::{Files, Form, asked, asked_word};
 use crate::observed::observed;
@@ -52,10 +54,8 @@ fn put_unread(name: &[u8], text: &mut Vec<u8>) -> Result<(), NoMemory>
 /// Writes the name of a file that was not read. Answers the status.
 fn unread<O: Sink>(alloc: Global, name: &[u8], out: &mut O) -> u8
     ensures says { IsUnread name.now (O.taken out.old) (O.taken out.new) result }
-    ensures later { O.faults out.old ≤ O.faults out.new }
-    ensures out_fault { result ≡ 5 → Rose (O.faults out.old) (O.faults out.new) }
-    ensures out_same { result ≢ 5 → O.faults out.new ≡ O.faults out.old }
-    ensures gave { result ≢ 1 → result ≢ 5 → O.given out.new ≡ O.taken out.new }
+    ensures sink { WritesText IsBroken (sink_seen O.Sink out.old) (sink_seen O.Sink out.new)
+        result }
 {
     let mut text = Vec::new(alloc);
     match put_unread(name, &mut text) {
@@ -80,10 +80,8 @@ fn put_bad_row(row: u64, text: &mut Vec<u8>) -> Result<(), NoMemory>
 /// Writes which row of observations is not good. Answers the status.
 fn refused<O: Sink>(alloc: Global, row: u64, out: &mut O) -> u8
     ensures says { IsRefusedRow row (O.taken out.old) (O.taken out.new) result }
-    ensures later { O.faults out.old ≤ O.faults out.new }
-    ensures out_fault { result ≡ 5 → Rose (O.faults out.old) (O.faults out.new) }
-    ensures out_same { result ≢ 5 → O.faults out.new ≡ O.faults out.old }
-    ensures gave { result ≢ 1 → result ≢ 5 → O.given out.new ≡ O.taken out.new }
+    ensures sink { WritesText IsBroken (sink_seen O.Sink out.old) (sink_seen O.Sink out.new)
+        result }
     ensures fault { result ≢ 4 }
 {
     let mut text = Vec::new(alloc);
@@ -120,12 +118,10 @@ fn shown<S: Source, O: Sink>(
         (beside script.now answers.now) (form_sought form)
         (form_said form (page_read page.now named.now) script.now answers.now) (form_why form)
         result }
-    ensures later { (S.faults log.old ≤ S.faults log.new) × (O.faults out.old ≤ O.faults out.new) }
+    ensures source { ReadsLog (S.faults log.old) (S.faults log.new) result }
     ensures read_fault { result ≡ 4 → Rose (S.faults log.old) (S.faults log.new) }
-    ensures out_fault { result ≡ 5 → Rose (O.faults out.old) (O.faults out.new) }
-    ensures source_same { (IsFaultStatus result → ⊥) → S.faults log.new ≡ S.faults log.old }
-    ensures out_same { result ≢ 5 → O.faults out.new ≡ O.faults out.old }
-    ensures gave { result ≢ 1 → result ≢ 5 → O.given out.new ≡ O.taken out.new }
+    ensures sink { WritesText IsBroken (sink_seen O.Sink out.old) (sink_seen O.Sink out.new)
+        result }
 {
     let sought = form_sought(form);
     match form {
@@ -229,6 +225,17 @@ fn has_observations(files: Files) -> bool
     }
 }
 
+/// The place of the first word that names a file, where the words are a form that names some. An
+/// `Err` is memory that was refused.
+pub fn first_file(alloc: Global, words: &[String]) -> Result<Option<usize>, NoMemory>
+    ensures { IfOk result (λ place. place ≡ first_file (form_of (map string_bytes words.now))) }
+{
+    match asked(alloc, words)? {
+        Some(form) if has_script(files_of(form)) => Ok(Some(files_at(form))),
+        _ => Ok(None),
+    }
+}
+
 /// Shows a log by a form whose script and answers were read, with the observations that it names.
 fn show_beside<S: Source, F: Source, O: Sink>(
     alloc: Global,
@@ -241,26 +248,18 @@ fn show_beside<S: Source, F: Source, O: Sink>(
     page: &PageTexts<'_>,
     out: &mut O,
 ) -> u8
-    ensures exact { (o : Option (List ℕ))
+    ensures shows { IfRead F.Source (has_observations (files_of form)) observations.old
+        observations.new (asked_word (map string_bytes words.now) (files_at form + 2))
+        (O.taken out.old) (O.taken out.new) result
+        (((o : Option (List ℕ))
         → FileHas (has_observations (files_of form)) (option_map F.left observations.old) o
         → IfGood (observed script.now answers.now o) (O.taken out.old) (O.taken out.new) result
-        (λ packed. Answers (S.left log.old) (S.left log.new) (O.taken out.old) (O.taken out.new)
-        (beside script.now answers.now) (form_sought form)
-        (form_said form (whole_page page.now (asked_word (map string_bytes words.now) 1) packed)
-        script.now answers.now) (form_why form) result)
-        ⊎ LacksFile (files_at form) (map string_bytes words.now) (O.taken out.old) (O.taken out.new)
+        (form_answers form page.now (map string_bytes words.now) (S.left log.old) (S.left log.new)
+        (O.taken out.old) (O.taken out.new) result script.now answers.now))
+        × (result ≡ 4 → Rose (S.faults log.old) (S.faults log.new))) }
+    ensures source { ReadsLog (S.faults log.old) (S.faults log.new) result }
+    ensures sink { WritesText IsBroken (sink_seen O.Sink out.old) (sink_seen O.Sink out.new)
         result }
-    ensures no_observations { has_observations (files_of form) ≡ true → observations.old ≡ None
-        → LacksFile (files_at form) (map string_bytes words.now) (O.taken out.old) (O.taken out.new)
-        result }
-    ensures later { (S.faults log.old ≤ S.faults log.new) × (O.faults out.old ≤ O.faults out.new) }
-    ensures read_fault { result ≡ 4 → Rose (S.faults log.old) (S.faults log.new)
-        ⊎ FileFailed F.faults (has_observations (files_of form)) observations.old
-        observations.new }
-    ensures out_fault { result ≡ 5 → Rose (O.faults out.old) (O.faults out.new) }
-    ensures source_same { (IsFaultStatus result → ⊥) → S.faults log.new ≡ S.faults log.old }
-    ensures out_same { result ≢ 5 → O.faults out.new ≡ O.faults out.old }
-    ensures gave { result ≢ 1 → result ≢ 5 → O.given out.new ≡ O.taken out.new }
 {
     let is_named = has_observations(files_of(form));
     let bytes = match named_bytes(alloc, is_named, observations) {
@@ -292,39 +291,15 @@ fn show_form<S: Source, F: Source, O: Sink>(
     page: &PageTexts<'_>,
     out: &mut O,
 ) -> u8
-    ensures exact { (s a : Option (List (List ℕ))) (o : Option (List ℕ))
-        → FileIs (has_script (files_of form)) (option_map F.left script.old) s
-        → FileIs (has_answers (files_of form)) (option_map F.left answers.old) a
-        → FileHas (has_observations (files_of form)) (option_map F.left observations.old) o
-        → IfGood (observed s a o) (O.taken out.old) (O.taken out.new) result (λ packed.
-        Answers (S.left log.old) (S.left log.new) (O.taken out.old) (O.taken out.new) (beside s a)
-        (form_sought form)
-        (form_said form (whole_page page.now (asked_word (map string_bytes words.now) 1) packed) s
-        a)
-        (form_why form) result)
-        ⊎ LacksFile (files_at form) (map string_bytes words.now) (O.taken out.old) (O.taken out.new) result }
-    ensures no_script { has_script (files_of form) ≡ true → script.old ≡ None
-        → IsUnread (asked_word (map string_bytes words.now) (files_at form)) (O.taken out.old)
-        (O.taken out.new)
+    ensures shows { ShowsForm F.Source form (map string_bytes words.now)
+        (files_beside_log script.old answers.old observations.old)
+        (files_beside_log script.new answers.new observations.new)
+        (form_answers form page.now (map string_bytes words.now) (S.left log.old) (S.left log.new)
+        (O.taken out.old) (O.taken out.new) result)
+        (S.faults log.old) (S.faults log.new) (O.taken out.old) (O.taken out.new) result }
+    ensures source { ReadsLog (S.faults log.old) (S.faults log.new) result }
+    ensures sink { WritesText IsBroken (sink_seen O.Sink out.old) (sink_seen O.Sink out.new)
         result }
-    ensures no_answers { (s : Option (List (List ℕ)))
-        → FileIs (has_script (files_of form)) (option_map F.left script.old) s
-        → has_answers (files_of form) ≡ true → answers.old ≡ None
-        → LacksFile (files_at form) (map string_bytes words.now) (O.taken out.old) (O.taken out.new)
-        result }
-    ensures no_observations { has_observations (files_of form) ≡ true → observations.old ≡ None
-        → LacksFile (files_at form) (map string_bytes words.now) (O.taken out.old) (O.taken out.new)
-        result }
-    ensures later { (S.faults log.old ≤ S.faults log.new) × (O.faults out.old ≤ O.faults out.new) }
-    ensures read_fault { result ≡ 4 → Rose (S.faults log.old) (S.faults log.new)
-        ⊎ (FileFailed F.faults (has_script (files_of form)) script.old script.new
-        ⊎ (FileFailed F.faults (has_answers (files_of form)) answers.old answers.new
-        ⊎ FileFailed F.faults (has_observations (files_of form)) observations.old
-        observations.new)) }
-    ensures out_fault { result ≡ 5 → Rose (O.faults out.old) (O.faults out.new) }
-    ensures source_same { (IsFaultStatus result → ⊥) → S.faults log.new ≡ S.faults log.old }
-    ensures out_same { result ≢ 5 → O.faults out.new ≡ O.faults out.old }
-    ensures gave { result ≢ 1 → result ≢ 5 → O.given out.new ≡ O.taken out.new }
 {
     let files = files_of(form);
     let script = match named_lines(alloc, has_script(files), script) {
@@ -368,49 +343,20 @@ pub fn run_show<S: Source, F: Source, O: Sink>(
     page: &PageTexts<'_>,
     out: &mut O,
 ) -> u8
-    ensures exact { (f : Form) (s a : Option (List (List ℕ))) (o : Option (List ℕ))
-        → form_of (map string_bytes words.now) ≡ Some f
-        → FileIs (has_script (files_of f)) (option_map F.left script.old) s
-        → FileIs (has_answers (files_of f)) (option_map F.left answers.old) a
-        → FileHas (has_observations (files_of f)) (option_map F.left observations.old) o
-        → IfGood (observed s a o) (O.taken out.old) (O.taken out.new) result (λ packed.
-        SaysExactly (beside s a) (form_sought f)
-        (form_said f (whole_page page.now (asked_word (map string_bytes words.now) 1) packed) s a)
-        (form_why f) (S.left log.old) (O.taken out.old) (O.taken out.new) result)
-        ⊎ LacksFile (files_at f) (map string_bytes words.now) (O.taken out.old) (O.taken out.new) result }
-    ensures no_script { (f : Form) → form_of (map string_bytes words.now) ≡ Some f
-        → has_script (files_of f) ≡ true → script.old ≡ None
-        → IsUnread (asked_word (map string_bytes words.now) (files_at f)) (O.taken out.old)
-        (O.taken out.new)
-        result }
-    ensures no_answers { (f : Form) (s : Option (List (List ℕ)))
-        → form_of (map string_bytes words.now) ≡ Some f
-        → FileIs (has_script (files_of f)) (option_map F.left script.old) s
-        → has_answers (files_of f) ≡ true → answers.old ≡ None
-        → LacksFile (files_at f) (map string_bytes words.now) (O.taken out.old) (O.taken out.new)
-        result }
-    ensures no_observations { (f : Form) → form_of (map string_bytes words.now) ≡ Some f
-        → has_observations (files_of f) ≡ true → observations.old ≡ None
-        → LacksFile (files_at f) (map string_bytes words.now) (O.taken out.old) (O.taken out.new)
-        result }
+    ensures shows { (f : Form) → form_of (map string_bytes words.now) ≡ Some f
+        → ShowsForm F.Source f (map string_bytes words.now)
+        (files_beside_log script.old answers.old observations.old)
+        (files_beside_log script.new answers.new observations.new)
+        (form_exactly f page.now (map string_bytes words.now) (S.left log.old)
+        (O.taken out.old) (O.taken out.new) result)
+        (S.faults log.old) (S.faults log.new) (O.taken out.old) (O.taken out.new) result }
     ensures usage { form_of (map string_bytes words.now) ≡ None
-        → Shows (O.taken out.old) (O.taken out.new) show_usage_text 2 result
-        ⊎ IsRefusedLog (O.taken out.old) (O.taken out.new) result }
-    ensures unread { form_of (map string_bytes words.now) ≡ None → S.left log.new ≡ S.left log.old }
-    ensures read_fault { (f : Form) → form_of (map string_bytes words.now) ≡ Some f → result ≡ 4
-        → Rose (S.faults log.old) (S.faults log.new)
-        ⊎ (FileFailed F.faults (has_script (files_of f)) script.old script.new
-        ⊎ (FileFailed F.faults (has_answers (files_of f)) answers.old answers.new
-        ⊎ FileFailed F.faults (has_observations (files_of f)) observations.old
-        observations.new)) }
-    ensures out_fault { result ≡ 5 → Rose (O.faults out.old) (O.faults out.new) }
-    ensures later { (S.faults log.old ≤ S.faults log.new) × (O.faults out.old ≤ O.faults out.new) }
-
-    // With a status that blames nothing no count rose; but where memory was refused or a write
-    // failed, the sink has given on all that it took.
-    ensures source_same { (IsFaultStatus result → ⊥) → S.faults log.new ≡ S.faults log.old }
-    ensures out_same { result ≢ 5 → O.faults out.new ≡ O.faults out.old }
-    ensures gave { result ≢ 1 → result ≢ 5 → O.given out.new ≡ O.taken out.new }
+        → (S.left log.new ≡ S.left log.old)
+        × (Shows (O.taken out.old) (O.taken out.new) show_usage_text 2 result
+        ⊎ IsRefusedLog (O.taken out.old) (O.taken out.new) result) }
+    ensures source { ReadsLog (S.faults log.old) (S.faults log.new) result }
+    ensures sink { WritesText IsBroken (sink_seen O.Sink out.old) (sink_seen O.Sink out.new)
+        result }
 {
     match asked(alloc, words) {
         Ok(Some(form)) => show_form(

@@ -1,5 +1,5 @@
 pub mod Slots
-pub mod Bits
+pub mod Kept
 pub use Slots.{IsLowest, SlotsOf, free_count}
-pub use Bits.{AreSlots, ChangesOne, IsLeast}
-unfoldable pub use Bits.{flags, has_bit, have_bit}
+pub use Kept.{AreSlots}
+unfoldable pub use Kept.{flags, is_free}

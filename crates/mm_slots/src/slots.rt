@@ -1,52 +1,65 @@
-ghost use Rattle.std.specs.Prelude.{◌≡◌, ◌↔◌, ℕ, ◌+◌, ◌-◌, ◌^◌, ◌<◌, ◌≤◌, ◌++◌, Bool, true, false, length, replicate, Some, None, IfOk, OnOk, OnErr, IfSome, IfNone, slice_get, slice_set};
+ghost use Rattle.std.specs.Prelude.{◌≡◌, ◌↔◌, ℕ, ◌+◌, ◌-◌, ◌^◌, ◌<◌, ◌≤◌, ◌++◌, true, false, max, length, replicate, Some, None, IfOk, OnOk, OnErr, IfSome, IfNone, slice_get, slice_set};
+ghost use Rattle.mm_bits.specs.{have_bit, put_at, IsLowestFrom};
 ghost use Rattle.mm_slots.specs.Slots.{SlotsOf, free_count, IsLowest};
+ghost use Rattle.mm_slots.specs.Kept.{is_free};
 
-use crate::tree::{Level, Numbers, Word};
+use mm_bits::BitSet;
 use mm_types::{NoMemory, Slot};
 use std::alloc::Global;
 use std::marker::Model;
-
-/// Of six levels, which hold 2^36 numbers. 262,144 slots use three.
-type Tree = Level<Level<Level<Level<Level<Word>>>>>;
 
 /// The slots of a paging file, each free or taken.
 ///
 /// Contracts see whether each slot is free, `free`, and how many slots can be added, `spare`.
 #[derive(Drop)]
 pub struct Slots {
-    tree: Tree,
+    /// The free slots that were taken before.
+    back: BitSet,
+    /// No slot from this one on was ever taken.
+    fresh: u32,
     slots: u32,
     free: u32,
     spare: u32,
 }
 
 impl Model for Slots {
-    ghost use Rattle.std.specs.Prelude.{◌*◌, length};
+    ghost use Rattle.mm_bits.specs.{have_bit};
     ghost use Rattle.mm_slots.specs.Slots.{SlotsOf};
-    ghost use Rattle.mm_slots.specs.Bits.{have_bit, flags, AreSlots};
+    ghost use Rattle.mm_slots.specs.Kept.{is_free, flags, AreSlots};
 
     ghost Value = { SlotsOf };
 
     ghost view = { λ s. record {
-      free = flags (have_bit s.tree.words.items) s.slots;
+      free = flags (is_free (have_bit s.back.words) s.fresh) s.slots;
       spare = s.spare;
     } };
 
-    ghost invariant = { λ s. AreSlots (have_bit s.tree.words.items) (64 * length s.tree.words.items)
+    ghost invariant = { λ s. AreSlots (have_bit s.back.words) s.back.room s.fresh
         s.slots s.free s.spare };
 }
 
-/// The numbers from `from` on and below `end` come into the set.
-fn insert_all<N: Numbers>(numbers: &mut N, from: u32, end: u32)
-    requires ordered { from ≤ end }
-    requires room { (i : ℕ) → i < end → i < N.room numbers.old }
-    ensures inside { (i : ℕ) → from ≤ i → i < end → N.has numbers.new i ≡ true }
-    ensures below { (i : ℕ) → i < from → N.has numbers.new i ≡ N.has numbers.old i }
-    ensures above { (i : ℕ) → end ≤ i → N.has numbers.new i ≡ N.has numbers.old i }
-    ensures kept { N.room numbers.new ≡ N.room numbers.old }
+/// Takes the lowest free slot, of which there is one.
+fn take_lowest(back: &mut BitSet, fresh: &mut u32) -> u32
+    requires some { (i : ℕ) × (is_free (have_bit back.old.words) fresh.old i ≡ true)
+        × (i + 1 < 2 ^ 32) }
+    requires low { (i : ℕ) → fresh.old ≤ i → have_bit back.old.words i ≡ false }
+    ensures lowest { IsLowestFrom (is_free (have_bit back.old.words) fresh.old) 0 result }
+    ensures taken { (i : ℕ) → is_free (have_bit back.new.words) fresh.new i
+        ≡ put_at false result (is_free (have_bit back.old.words) fresh.old) i }
+    ensures low { (i : ℕ) → fresh.new ≤ i → have_bit back.new.words i ≡ false }
+    ensures front { fresh.new ≤ max fresh.old (result + 1) }
+    ensures room { back.new.room ≡ back.old.room }
 {
-    for i in from..end {
-        numbers.insert(i as usize);
+    match back.next(0) {
+        Some(slot) => {
+            back.remove(slot);
+            slot
+        }
+        None => {
+            let slot = *fresh;
+            *fresh = slot + 1;
+            slot
+        }
     }
 }
 
@@ -55,15 +68,13 @@ impl Slots {
     pub fn new(alloc: Global, n: u32) -> Result<Slots, NoMemory>
         ensures { IfOk result (λ s. s.free ≡ replicate n true) }
     {
-        let mut slots = Slots {
-            tree: Tree::new(alloc),
-            slots: 0,
-            free: 0,
+        Ok(Slots {
+            back: BitSet::new(alloc, n)?,
+            fresh: 0,
+            slots: n,
+            free: n,
             spare: 0,
-        };
-        slots.reserve(n)?;
-        slots.grow(n);
-        Ok(slots)
+        })
     }
 
     /// How many slots there are.
@@ -92,10 +103,9 @@ impl Slots {
         if self.free == 0 {
             return None;
         }
-        let slot = self.tree.lowest();
-        self.tree.remove(slot);
+        let slot = take_lowest(&mut self.back, &mut self.fresh);
         self.free -= 1;
-        Some(Slot(slot as u32))
+        Some(Slot(slot))
     }
 
     /// Gives back a slot that was taken.
@@ -103,7 +113,7 @@ impl Slots {
         requires { slice_get self.old.free s.0 ≡ Some false }
         ensures { self.new ≡ record self.old { free = slice_set self.old.free s.0 true } }
     {
-        self.tree.insert(s.0 as usize);
+        self.back.insert(s.0);
         self.free += 1;
     }
 
@@ -117,8 +127,7 @@ impl Slots {
         if n <= self.spare {
             return Ok(());
         }
-        let room = (self.slots as usize + n as usize).min(1 << 32);
-        self.tree.reserve(room)?;
+        self.back.reserve(self.slots.saturating_add(n))?;
         self.spare = n;
         Ok(())
     }
@@ -130,9 +139,7 @@ impl Slots {
         ensures { self.new
             ≡ record { free = self.old.free ++ replicate n true; spare = self.old.spare - n } }
     {
-        let end = self.slots + n;
-        insert_all(&mut self.tree, self.slots, end);
-        self.slots = end;
+        self.slots += n;
         self.free += n;
         self.spare -= n;
     }

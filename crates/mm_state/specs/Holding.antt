@@ -12,7 +12,7 @@ use Rattle.mm_devices.specs.declared.Inject.{Ghosts as DeviceGhosts}
 use Rattle.mm_log_writer.specs.{Ghosts as MovesGhosts}
 use Rattle.mm_move_rules.specs.{record_at, is_read, same_place, ForFrame}
 use Rattle.mm_move_laws.proofs.PlaceCounts.{same_place-true}
-use Rattle.mm_requests.specs.{is_in, Waiting}
+use Rattle.mm_requests.specs.{is_requested, Waiting}
 use Rattle.mm_requests.specs.declared.flights.Waiting.TheVariants as waiting
 use Rattle.mm_page_tables.specs.{Aside, Process, entry_or, bound_of, at_of, process_in, read_or, bound_in, at_in, AsideBound, bare, is_there, has_word}
 use Rattle.mm_page_tables.specs.{key_entry, aside_or}
@@ -106,7 +106,7 @@ parts_storage : (t : Parts) → StorageHolds (parts_of.shown_parts t)
 parts_storage t = storage_holds (parts_of.joined_parts t) t.kept
 
 -- a request in flight is not the line's own
-not_own : (t : JoinedParts) → PartsKept t → (f : ℕ) → is_in f t.flight.frames ≡ true →
+not_own : (t : JoinedParts) → PartsKept t → (f : ℕ) → is_requested f t.flight.frames ≡ true →
     is_read (record_at t.table f).request ≡ true → own_is t.own f ≡ false
 not_own t kept f flies reads = not_true (own_is t.own f) (λ e.
     let once = read_once t kept f reads in

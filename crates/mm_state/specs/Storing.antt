@@ -16,7 +16,7 @@ zero_filled = refl
 
 on_device : (ram : FrameBytes) (slots blocks : BlockBytes) (b : Backing) →
     pages.is_on_device (pages.in_backing b) ≡ true →
-    bytes_at ram slots blocks (home_at b) ≡ pages.bytes_at slots blocks (pages.in_backing b)
+    bytes_at ram slots blocks (home_at b) ≡ pages.bytes_on_devices slots blocks (pages.in_backing b)
 on_device ram slots blocks backing.None h = cc
 on_device ram slots blocks (backing.Slot s) h = refl
 on_device ram slots blocks (backing.Block c) h = refl
@@ -29,7 +29,7 @@ module _ (l : FrameLife) (reached : ∥ ReachedByMoves l ∥₁)
       → pages.is_on_device (if c then held.Dead else
       pages.in_backing (record_at l.frames f.0).backing) ≡ true
       → bytes_at ram slots blocks (if r then home_at (record_at l.frames f.0).backing else
-      held.Frame f) ≡ pages.bytes_at slots blocks (if c then held.Dead else
+      held.Frame f) ≡ pages.bytes_on_devices slots blocks (if c then held.Dead else
       pages.in_backing (record_at l.frames f.0).backing)
   in_frame f k owner true r e q on = cc
   in_frame f k owner false true e q on =
@@ -40,12 +40,12 @@ module _ (l : FrameLife) (reached : ∥ ReachedByMoves l ∥₁)
 
   pub stored_bytes : (k : Key) → pages.is_on_device (pages.stored_of l (l.stands k)) ≡ true →
       contents_of l ram slots blocks k ≡
-      pages.bytes_at slots blocks (pages.stored_of l (l.stands k))
+      pages.bytes_on_devices slots blocks (pages.stored_of l (l.stands k))
   stored_bytes k on = by (l.stands k) refl on
     where
       by : (h : Held) → l.stands k ≡ h → pages.is_on_device (pages.stored_of l h) ≡ true →
           bytes_at ram slots blocks (located l h) ≡
-          pages.bytes_at slots blocks (pages.stored_of l h)
+          pages.bytes_on_devices slots blocks (pages.stored_of l h)
       by (held.Frame f) e on =
           in_frame f k ((facts_of l reached).owner k f e) (record_at l.frames f.0).changed
           (is_read (record_at l.frames f.0).request) refl refl on

@@ -4,7 +4,7 @@ ghost use Rattle.mm_types.specs.declared.devices.Direction.TheVariants as way;
 ghost use Rattle.mm_types.specs.declared.moves.Move.TheVariants as move;
 ghost use Rattle.mm_move_rules.specs.{slot_of, home_at, bytes_at, IsLegal};
 ghost use Rattle.mm_move_laws.specs.{is_backed, block_of};
-ghost use Rattle.mm_devices.specs.{is_named, Serves, device_with};
+ghost use Rattle.mm_devices.specs.{is_next_named, Serves, device_with};
 ghost use Rattle.mm_frame_laws.specs.{slots_written, blocks_written};
 ghost use Rattle.mm_state_calls.specs.{CalledFor, written_if};
 ghost use Rattle.mm_requests.specs.{ended};
@@ -28,7 +28,7 @@ pub(crate) fn write_device<B: Inject>(device: &mut B, block: u32, page: &[u8; 40
       way = way.Write;
       block = block;
       succeeded = result;
-      named = is_named way.Write (B.named device.old);
+      named = is_next_named way.Write (B.named device.old);
     })
         (device_with (B.log device.old) (B.named device.old) (B.faults device.old))
         (device_with (B.log device.new) (B.named device.new) (B.faults device.new)) }

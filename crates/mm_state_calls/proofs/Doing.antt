@@ -6,7 +6,7 @@ use Rattle.mm_types.specs.{Direction, Backing, Move, Place}
 use Rattle.mm_types.specs.declared.devices.Direction.TheVariants as way
 use Rattle.mm_types.specs.declared.frames.Backing.TheVariants as backing
 use Rattle.mm_types.specs.declared.moves.Move.TheVariants as move
-use Rattle.mm_devices.specs.{DeviceCall, is_named, Call, KeepsOthers}
+use Rattle.mm_devices.specs.{DeviceCall, is_next_named, Call, KeepsOthers}
 use Rattle.mm_devices.proofs.{all_served_then, all_served_one, map-logged, keeps_same, keeps_then}
 use Rattle.mm_move_rules.specs.{FrameLife, after_move, Grew, Replays, Walk, walked, walked_all, waits_through, ages_through}
 use Rattle.mm_move_rules.proofs.{replays_then, spelled-append, moves-append, grew_then, grew_nothing}
@@ -95,7 +95,7 @@ does_called w ok x (backing.Slot t) s z m c e g = record {
   ages = m.ages;
   waits = m.waits;
   told = m.told;
-  paging_calls = one_call w t.0 ok (is_named w s.paging.named) ∷ [];
+  paging_calls = one_call w t.0 ok (is_next_named w s.paging.named) ∷ [];
   paging = all_served_one _ s.paging z.paging c.0;
   paging_are = sym e;
   file_calls = [];
@@ -114,7 +114,7 @@ does_called w ok x (backing.Block t) s z m c e g = record {
   paging_calls = [];
   paging = c.1;
   paging_are = sym e;
-  file_calls = one_call w t.0 ok (is_named w s.files.named) ∷ [];
+  file_calls = one_call w t.0 ok (is_next_named w s.files.named) ∷ [];
   files = all_served_one _ s.files z.files c.0;
   files_are = sym g;
   slots_kept = m.slots_kept;

@@ -5,8 +5,8 @@ use Rattle.mm_types.specs.{end_of_user_pages, IsMachine, Frame, Key, Place}
 use Rattle.mm_types.specs.declared.frames.Held.TheVariants as held
 use Rattle.mm_move_rules.specs.{record_at, is_read, is_write, is_live, is_touch, fits_place, ForFrame}
 use Rattle.mm_move_laws.specs.{ReachedByMoves, is_backed, block_held, IsAdded, is_home_for, is_backing_for}
-use Rattle.mm_store.specs.{stored_of, is_on_device, bytes_at}
-use Rattle.mm_parts.specs.{is_own_line, own_is, HasSet, HasHome}
+use Rattle.mm_store.specs.{stored_of, is_on_device, bytes_on_devices}
+use Rattle.mm_parts.specs.{is_own_line, own_is, HasSet, HasEntry}
 use Rattle.mm_state_calls.specs.Shown.{StateOf}
 
 pub record StateHolds (s : StateOf) : Type 0 where
@@ -25,7 +25,7 @@ pub record StateHolds (s : StateOf) : Type 0 where
   pub others_wait : (t f : ℕ) → s.waits t ≡ ForFrame f → own_is s.own f ≡ false
   -- the live keys have bytes, and words
   pub live : (k : Key) → is_live s.life k ≡ is_some (s.contents k)
-  pub home : (k : Key) → is_live s.life k ≡ true → HasHome s.bound s.areas k
+  pub home : (k : Key) → is_live s.life k ≡ true → HasEntry s.bound s.areas k
   -- a key stands in the frame that has it
   pub owner : (k : Key) (f : Frame) → s.life.stands k ≡ held.Frame f →
       (record_at s.life.frames f.0).owner ≡ Some k
@@ -68,7 +68,7 @@ pub record StateHolds (s : StateOf) : Type 0 where
   pub slots : length s.slots ≡ s.life.machine.slots
   pub blocks : length s.blocks ≡ s.life.machine.blocks
   pub stored : (k : Key) → is_on_device (stored_of s.life (s.life.stands k)) ≡ true →
-      s.contents k ≡ bytes_at s.slots s.blocks (stored_of s.life (s.life.stands k))
+      s.contents k ≡ bytes_on_devices s.slots s.blocks (stored_of s.life (s.life.stands k))
   -- a failed call of the line's search, or a read that failed, is one of the line's device calls
   pub search : 0 < s.told.search_writes.failed →
       0 < s.told.paging_writes.failed + s.told.file_writes.failed

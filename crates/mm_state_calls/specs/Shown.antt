@@ -7,7 +7,7 @@ use Rattle.mm_types.specs.declared.frames.Backing.TheVariants as backing
 use Rattle.mm_types.specs.declared.moves.Move.TheVariants as move
 use Rattle.mm_move_rules.specs.{record_at, FrameLife, IsLegal, after_move, Log}
 use Rattle.mm_move_rules.specs.{Grew, AreMoves, spelled_moves, Waiting, waits_after, ages_after, BlockBytes}
-use Rattle.mm_devices.specs.{is_named, DeviceOf, Serves, CallFailed, KeepsOthers}
+use Rattle.mm_devices.specs.{is_next_named, DeviceOf, Serves, CallFailed, KeepsOthers}
 use Rattle.mm_frame_laws.specs.{slots_written, blocks_written}
 use Rattle.mm_store.specs.{told_after, none_told, paging_traffic, file_traffic}
 use Rattle.mm_store.specs.Told.{Told}
@@ -51,14 +51,14 @@ CalledFor w (backing.Slot b) ok paging files paging' files' =
       way = w;
       block = b.0;
       succeeded = ok;
-      named = is_named w paging.named;
+      named = is_next_named w paging.named;
     }) paging paging' × (files' ≡ files)
 CalledFor w (backing.Block b) ok paging files paging' files' =
     Serves (record {
       way = w;
       block = b.0;
       succeeded = ok;
-      named = is_named w files.named;
+      named = is_next_named w files.named;
     }) files files' × (paging' ≡ paging)
 
 abbrev pub DeviceCalled : Direction → Backing → Bool → StateOf → StateOf → Type 0

@@ -16,7 +16,7 @@ ghost use Rattle.mm_ram.specs.{bytes_from, overwritten};
 ghost use Rattle.mm_pfn_database.specs.{has_block, modified_with_block, IsAtRest};
 ghost use Rattle.mm_requests.specs.{nth_oldest, place_in};
 ghost use Rattle.mm_working_sets.specs.{IsNextFrom};
-ghost use Rattle.mm_parts.specs.{front, front_for_read, own_after, own_ended, end_of_read, write_end, write_target, left_by, IsPlainLine, after_page, HasHome, IsClear, MayMap, CanBegin, aside_after_add, names_after_drop, names_after_give, names_after_map};
+ghost use Rattle.mm_parts.specs.{front, front_for_read, own_after, own_ended, end_of_read, write_end, write_target, left_by, IsPlainLine, after_page, HasEntry, IsClear, MayMap, CanBegin, aside_after_add, names_after_drop, names_after_give, names_after_map};
 ghost use Rattle.mm_store.specs.{with_named, with_write};
 ghost use Rattle.mm_frame_laws.specs.{IsNextPage, NoPageFollows, IsSoiled};
 ghost use Rattle.mm_state_calls.specs.Shown.{StateOf, Made, GrowBegins, WrotePage, DeviceCalled, moved, moved_with_call, asked_to_grow, backing_of_frame, written_if, KeepsRequests};
@@ -169,7 +169,7 @@ pub trait StateCalls {
     /// stands beside the tables, since its place names the page that is copied.
     fn add_zero(&mut self, key: Key)
         requires legal { IsLegal (move.Add key None) (shown self.old).life }
-        requires home { HasHome (shown self.old).bound (shown self.old).areas key }
+        requires home { HasEntry (shown self.old).bound (shown self.old).areas key }
         requires clear { IsClear (shown self.old).life.kind (shown self.old).names
             (shown self.old).aside key }
         ensures made { Made (move.Add key None) (shown self.old) (shown self.new) }
@@ -182,7 +182,7 @@ pub trait StateCalls {
     /// A page of a file comes to be: its bytes are those of its block.
     fn add_block(&mut self, key: Key, b: Block)
         requires legal { IsLegal (move.Add key (Some b)) (shown self.old).life }
-        requires home { HasHome (shown self.old).bound (shown self.old).areas key }
+        requires home { HasEntry (shown self.old).bound (shown self.old).areas key }
         ensures made { Made (move.Add key (Some b)) (shown self.old) (shown self.new) }
         ensures rest { shown self.new ≡ record (moved (shown self.old) (shown self.new)) {
           contents = changed same_key (shown self.old).contents key
@@ -466,7 +466,7 @@ pub trait StateCalls {
     /// Where the bytes of a key stand, or that it is not live. Its place is bound, or its index is
     /// one of an open area.
     fn stands(&self, key: Key) -> Held
-        requires { HasHome (shown self.now).bound (shown self.now).areas key }
+        requires { HasEntry (shown self.now).bound (shown self.now).areas key }
         ensures { result ≡ (shown self.now).life.stands key };
 
     /// The frame that a bound place is valid for, if it is valid.

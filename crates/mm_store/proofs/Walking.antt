@@ -38,16 +38,16 @@ first_more P none more (m ∷ ms) ys h = more m ms ys h
 goes_more : (a : Aim) (w : Walk) (p : Place) (ms ys : List Move) → PageGoes a w p ms → PageGoes a w p (ms ++ ys)
 goes_more a w p ms ys (ByCopy e c shows next) = ByCopy e c shows (first_more (IsMapped a.place) (λ h. h) (λ m ms ys h. h) ms ys next)
 goes_more a w p ms ys (FromFull e none full old next) = FromFull e none full old (first_more (IsMapped a.place) (λ h. h) (λ m ms ys h. h) ms ys next)
-goes_more a w p ms ys (InShortage s n v) = InShortage s n v
+goes_more a w p ms ys (InShortage x s n v) = InShortage x s n v
 
 pub access_more : (a : Aim) (w : Walk) (m : Move) (ms ys : List Move) → AccessMove a w m ms → AccessMove a w m (ms ++ ys)
 access_more a w (move.At n k) ms ys h = absurd h
 access_more a w (move.Add k None) ms ys h = (h.0, h.1, first_more (IsGiven k) (λ g. g) (λ m ms ys g. g) ms ys h.2)
 access_more a w (move.Add k (Some b)) ms ys h = absurd h
 access_more a w (move.Drop k) ms ys h = absurd h
-access_more a w (move.Clear f) ms ys h = given_more f ms ys h
-access_more a w (move.Steal f) ms ys h = used_more f ms ys h
-access_more a w (move.Read f k) ms ys h = (h.0, h.1, λ e. first_more (IsReadEnded f) (λ g. g) (λ m ms ys g. g) ms ys (h.2 e))
+access_more a w (move.Clear f) ms ys h = (h.0, given_more f ms ys h.1)
+access_more a w (move.Steal f) ms ys h = (h.0, used_more f ms ys h.1)
+access_more a w (move.Read f k) ms ys h = (h.0, h.1, h.2, λ e. first_more (IsReadEnded f) (λ g. g) (λ m ms ys g. g) ms ys (h.3 e))
 access_more a w (move.Unmap p) ms ys h = goes_more a w p ms ys h
 access_more a w (move.Write f s) ms ys h = (h.0, h.1, first_more (IsWriteEnded f) (λ g. g) (λ m ms ys g. g) ms ys h.2)
 access_more a w _ ms ys h = h

@@ -116,17 +116,17 @@ Rises from to (rank ∷ ranks) = (from ≤ rank) × (rank < to) × Rises rank to
 
 -- where a private key goes, its place is valid no more; where a key of an area goes, none below it
 -- lives
-abbrev pub IsLowest : FrameLife → Move → Type 0
-IsLowest l (move.Drop (key.Private pid vpn)) = l.valid (record { pid = pid; vpn = vpn }) ≡ None
-IsLowest l (move.Drop (key.Shared area index)) = (i : ℕ) → i < index →
+abbrev pub DropsLowest : FrameLife → Move → Type 0
+DropsLowest l (move.Drop (key.Private pid vpn)) = l.valid (record { pid = pid; vpn = vpn }) ≡ None
+DropsLowest l (move.Drop (key.Shared area index)) = (i : ℕ) → i < index →
     is_live l (key.Shared area i) ≡ false
-IsLowest l _ = Unit {0}
+DropsLowest l _ = Unit {0}
 
 -- each page goes with its place before its key, and of each area the lowest key that lives goes
 -- first
 abbrev pub LowestFirst : FrameLife → List Move → Type 0
 LowestFirst l [] = Unit {0}
-LowestFirst l (m ∷ ms) = IsLowest l m × LowestFirst (after_move l m) ms
+LowestFirst l (m ∷ ms) = DropsLowest l m × LowestFirst (after_move l m) ms
 
 -- ---- such calls
 

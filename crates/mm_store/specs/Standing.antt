@@ -36,12 +36,12 @@ stored_of l (held.Block b) = held.Block b
 stored_of l held.Zero = held.Zero
 stored_of l held.Dead = held.Dead
 
-abbrev pub bytes_at : List Page → List Page → Held → Option Page
-bytes_at slots blocks (held.Frame f) = None
-bytes_at slots blocks (held.Slot s) = slice_get slots s.0
-bytes_at slots blocks (held.Block b) = slice_get blocks b.0
-bytes_at slots blocks held.Zero = Some (filled 0)
-bytes_at slots blocks held.Dead = None
+abbrev pub bytes_on_devices : List Page → List Page → Held → Option Page
+bytes_on_devices slots blocks (held.Frame f) = None
+bytes_on_devices slots blocks (held.Slot s) = slice_get slots s.0
+bytes_on_devices slots blocks (held.Block b) = slice_get blocks b.0
+bytes_on_devices slots blocks held.Zero = Some (filled 0)
+bytes_on_devices slots blocks held.Dead = None
 
 abbrev pub is_on_device : Held → Bool
 is_on_device (held.Frame f) = false
@@ -91,7 +91,7 @@ pub record PagingStands (contents : Key → Option Page) (s : StoreOf) (b : Behi
   pub block : (k : Key) → s.block_of k ≡ block_at (backed_by b.life (b.life.stands k))
   pub slots : length b.slots ≡ s.machine.slots
   pub stored : (k : Key) → is_on_device (stored_of b.life (b.life.stands k)) ≡ true →
-      contents k ≡ bytes_at b.slots s.file_blocks (stored_of b.life (b.life.stands k))
+      contents k ≡ bytes_on_devices b.slots s.file_blocks (stored_of b.life (b.life.stands k))
 
 -- where a store pages nothing, nothing stands behind it, and no thread waits
 pub record Rests (s : StoreOf) (b : Behind) : Type 0 where

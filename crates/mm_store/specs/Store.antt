@@ -6,6 +6,7 @@ use Rattle.mm_types.specs.declared.moves.LineKind.TheVariants as kind
 use Rattle.mm_world.specs.{Page, filled, Need}
 use Rattle.mm_world.specs.Report.{Report}
 use Rattle.mm_devices.specs.{DeviceOf}
+use Rattle.mm_move_rules.specs.{changed, same_place}
 
 -- the place and the need for which no device is called, after a thread's access was found ready
 pub record Ready : Type 0 where
@@ -45,13 +46,6 @@ pub record StoreOf : Type 0 where
   pub file_device : DeviceOf
 
 -- ---- functions, changed
-
--- a function changed at one argument, by a test of equality
-abbrev pub changed : {K V : Type 0} → (K → K → Bool) → (K → V) → K → V → K → V
-changed same f k v q = if same q k then v else f q
-
-abbrev pub same_place : Place → Place → Bool
-same_place a b = (a.pid.0 == b.pid.0) && (a.vpn.0 == b.vpn.0)
 
 -- the page of the place is one of these pages of the process
 abbrev pub is_place_in : Pid → Range → Place → Bool

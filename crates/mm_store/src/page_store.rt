@@ -19,7 +19,9 @@ ghost use Rattle.mm_store.specs.Passing.{PassesIn, NotesIn, FileMade};
 ghost use Rattle.mm_store.specs.Accesses.{Touches, Copies, Starts, Forgets};
 ghost use Rattle.mm_store.specs.Housekeeping.{Turn, Makes, MakesFrom, key_number, Ends as Ending, Turns, OneMove, Trims, AgesAll, Clears, WritesOut, CompletesAs, GrowsAs, FlushesPage};
 ghost use Rattle.mm_store.specs.Leaving.{Leaving};
-ghost use Rattle.mm_store.specs.Store.{StoreOf, changed, changed_in, same_place, unnamed, own_key, with_file, with_blocks};
+ghost use Rattle.mm_store.specs.Store.{StoreOf, changed_in, unnamed, own_key, with_file, with_blocks};
+ghost use Rattle.mm_move_rules.specs.{same_place};
+ghost use Rattle.mm_move_rules.specs.{changed};
 ghost use Rattle.mm_store.specs.Reports.{begun, rearranged, eased, called, with_named, with_named_paging, fetched, wrote, started, completed, IsBegun, Served, SomeFailed, HasCauses, Ends};
 ghost use Rattle.mm_store.specs.Conditions.{IsLineKind, pid_after, AllBound, MayUnbind, HasHome, MayRemove, IsAt, MayAccess, IsReady, MayName, touch, copying, place_at, need_for, waits_at_once, wait_after, AreAmong, IsAmong};
 

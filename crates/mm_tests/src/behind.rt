@@ -1,7 +1,7 @@
 ghost use Rattle.std.specs.Prelude.{◌≡◌, ◌≤◌, ◌<◌, false, length, IsSome, slice_set};
 ghost use Rattle.std.specs.Bool.{OnTrue, OnFalse};
 ghost use Rattle.mm_types.specs.declared.devices.Direction.TheVariants as way;
-ghost use Rattle.mm_devices.specs.{is_named, Serves, device_with};
+ghost use Rattle.mm_devices.specs.{is_next_named, Serves, device_with};
 ghost use Rattle.mm_move_rules.specs.{record_at, is_read};
 ghost use Rattle.mm_ram.specs.{bytes_of, overwritten, with_page};
 ghost use Rattle.mm_frame_laws.specs.{IsSoiled};
@@ -25,7 +25,7 @@ fn write_device<B: Inject>(device: &mut B, block: u32, page: &[u8; 4096]) -> boo
       way = way.Write;
       block = block;
       succeeded = result;
-      named = is_named way.Write (B.named device.old);
+      named = is_next_named way.Write (B.named device.old);
     })
         (device_with (B.log device.old) (B.named device.old) (B.faults device.old))
         (device_with (B.log device.new) (B.named device.new) (B.faults device.new)) }

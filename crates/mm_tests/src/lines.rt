@@ -1,7 +1,8 @@
 ghost use Rattle.std.specs.Prelude.{◌≡◌, ◌≤◌, ◌+◌, false, OnOk, IfOk, replicate};
 ghost use Rattle.mm_devices.specs.{empty_block};
 ghost use Rattle.mm_script.specs.{IsWellFormed};
-ghost use Rattle.mm_dispatch.specs.{is_machine, line_number};
+ghost use Rattle.mm_dispatch.specs.{line_number};
+ghost use Rattle.mm_script.specs.{is_machine};
 
 use mm_devices::{BlockDevice, MemBlocks};
 use mm_dispatch::{World, is_machine};

@@ -7,7 +7,7 @@ use Rattle.mm_sentences.specs.declared.facts.Facts.{Facts}
 use Rattle.mm_sentences.specs.{facts_of}
 use Rattle.mm_transcripts.specs.{AgesOf, no_ages_known, Reason, row_unless_folded, first_then, first_behind, ending_text, ages_then, reason_then, transcript_rows_from}
 use Rattle.mm_transcripts.specs.{classed_row, rows_rest, unwritten_before, unwritten_end, writes_left}
-use Rattle.mm_log_walk.specs.{Beside, pending, class_then, move_of, Pending}
+use Rattle.mm_log_walk.specs.{Beside, pending_class, class_then, move_of, Pending}
 use Rattle.mm_log_walk.proofs.{class_known}
 
 module _ (b : Beside) (whole : Bool) (l : FrameLife) (v : MarksOf) (p : Option Pending) (f : Option Move) (x : Facts) (r : Option Reason) (a : AgesOf) (w : ℕ) (m : Move) where
@@ -28,7 +28,7 @@ module _ (b : Beside) (whole : Bool) (l : FrameLife) (v : MarksOf) (p : Option P
   -- its row waits now, and what stands before it was written
   row_waits : (text : Text) (ms : List Move)
       → ((text ++ row_now) ++ unwritten_before w l m)
-      ++ rows_rest b whole (marks_after v m) (Some (pending l v (move_of p) m)) first_now (facts_of l m) (reason_then b a l m) (ages_then b m a) (writes_left b.script w m) (after_move l m) ms
+      ++ rows_rest b whole (marks_after v m) (Some (pending_class l v (move_of p) m)) first_now (facts_of l m) (reason_then b a l m) (ages_then b m a) (writes_left b.script w m) (after_move l m) ms
       ≡ text ++ rows_rest b whole v p f x r a w l (m ∷ ms)
   row_waits text ms =
       let next : Option Move = next_of ms in
@@ -37,7 +37,7 @@ module _ (b : Beside) (whole : Bool) (l : FrameLife) (v : MarksOf) (p : Option P
       ∙ append_assoc text row_now (transcript_rows_from b whole l v a w (move_of p) first_now (m ∷ ms))
 
   pub row_taken : (v' : MarksOf) (p' : Option Pending) (f' : Option Move) (x' : Facts) (r' : Option Reason) (a' : AgesOf) (w' : ℕ) (text row done : Text)
-      → row ≡ text ++ row_now → done ≡ row ++ unwritten_before w l m → v' ≡ marks_after v m → p' ≡ Some (pending l v (move_of p) m) → f' ≡ first_now
+      → row ≡ text ++ row_now → done ≡ row ++ unwritten_before w l m → v' ≡ marks_after v m → p' ≡ Some (pending_class l v (move_of p) m) → f' ≡ first_now
       → x' ≡ facts_of l m → r' ≡ reason_then b a l m → a' ≡ ages_then b m a → w' ≡ writes_left b.script w m → (ms : List Move)
       → done ++ rows_rest b whole v' p' f' x' r' a' w' (after_move l m) ms ≡ text ++ rows_rest b whole v p f x r a w l (m ∷ ms)
   row_taken v' p' f' x' r' a' w' text row done et eu ev ep ef ex er ea ew ms =
@@ -46,11 +46,11 @@ module _ (b : Beside) (whole : Bool) (l : FrameLife) (v : MarksOf) (p : Option P
       ap (λ t. t ++ rows_rest b whole v' p' f' x' r' a' w' l' ms) (eu ∙ ap (λ t. t ++ unwritten_before w l m) et)
       ∙ ap (λ (u : MarksOf). told ++ rows_rest b whole u p' f' x' r' a' w' l' ms) ev
       ∙ ap (λ (q : Option Pending). told ++ rows_rest b whole (marks_after v m) q f' x' r' a' w' l' ms) ep
-      ∙ ap (λ (g : Option Move). told ++ rows_rest b whole (marks_after v m) (Some (pending l v (move_of p) m)) g x' r' a' w' l' ms) ef
-      ∙ ap (λ (y : Facts). told ++ rows_rest b whole (marks_after v m) (Some (pending l v (move_of p) m)) first_now y r' a' w' l' ms) ex
-      ∙ ap (λ (s : Option Reason). told ++ rows_rest b whole (marks_after v m) (Some (pending l v (move_of p) m)) first_now (facts_of l m) s a' w' l' ms) er
-      ∙ ap (λ (o : AgesOf). told ++ rows_rest b whole (marks_after v m) (Some (pending l v (move_of p) m)) first_now (facts_of l m) (reason_then b a l m) o w' l' ms) ea
-      ∙ ap (λ (n : ℕ). told ++ rows_rest b whole (marks_after v m) (Some (pending l v (move_of p) m)) first_now (facts_of l m) (reason_then b a l m) (ages_then b m a) n l' ms) ew
+      ∙ ap (λ (g : Option Move). told ++ rows_rest b whole (marks_after v m) (Some (pending_class l v (move_of p) m)) g x' r' a' w' l' ms) ef
+      ∙ ap (λ (y : Facts). told ++ rows_rest b whole (marks_after v m) (Some (pending_class l v (move_of p) m)) first_now y r' a' w' l' ms) ex
+      ∙ ap (λ (s : Option Reason). told ++ rows_rest b whole (marks_after v m) (Some (pending_class l v (move_of p) m)) first_now (facts_of l m) s a' w' l' ms) er
+      ∙ ap (λ (o : AgesOf). told ++ rows_rest b whole (marks_after v m) (Some (pending_class l v (move_of p) m)) first_now (facts_of l m) (reason_then b a l m) o w' l' ms) ea
+      ∙ ap (λ (n : ℕ). told ++ rows_rest b whole (marks_after v m) (Some (pending_class l v (move_of p) m)) first_now (facts_of l m) (reason_then b a l m) (ages_then b m a) n l' ms) ew
       ∙ row_waits text ms
 
 -- no move comes

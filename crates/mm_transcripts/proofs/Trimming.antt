@@ -2,6 +2,7 @@
 use Rattle.std.proofs.Common.{◌≡◌, ◌≢◌, ℕ, zero, suc, ◌+◌, ◌-◌, ◌<◌, ◌≤◌, Bool, true, false, ◌&&◌, cond, List, [], ◌∷◌, ◌++◌, length, take, drop, get_or, replicate, refl, sym, ap, ◌∙◌, arith, append_assoc}
 use Rattle.std.specs.Prelude.{◌==◌}
 use Rattle.std.proofs.lemmas.Bool.{eq-eqb, ne_eqb}
+use Rattle.std.proofs.lemmas.List.{take-replicate}
 use Rattle.mm_types.specs.{Text}
 use Rattle.mm_transcripts.specs.{trimmed, is_none_left}
 
@@ -49,15 +50,8 @@ trimmed_none xs = refl
 
 pub ruleset trimming = (trimmed_one, trimmed_all, trimmed_none)
 
-one_then : (k : ℕ) → ◌++◌ {A = ℕ} (replicate k 0x20) (0x20 ∷ []) ≡ replicate (suc k) 0x20
-one_then zero = refl
-one_then (suc k) = ap (λ (t : Text). 0x20 ∷ t) (one_then k)
+-- some spaces of as many as a line has columns
+pub few_spaces : (n : ℕ) → n ≤ 46 → take n (replicate {A = ℕ} 46 0x20) ≡ replicate n 0x20
+few_spaces n few = take-replicate {X = ℕ} n 46 0x20 few
 
-one_on : (k : ℕ) → suc k ≡ k + 1
-one_on k = omega arith
-
--- one space more
-pub one_more : (k : ℕ) → ◌++◌ {A = ℕ} (replicate k 0x20) (0x20 ∷ []) ≡ replicate (k + 1) 0x20
-one_more k = one_then k ∙ ap (λ n. replicate {A = ℕ} n 0x20) (one_on k)
-
-pub ruleset spaces = (one_more, append_assoc)
+pub ruleset spaces = (few_spaces, append_assoc)

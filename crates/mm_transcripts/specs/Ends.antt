@@ -3,7 +3,7 @@
 use Rattle.std.specs.Prelude.{ℕ, ◌+◌, Bool, true, false, if◌then◌else◌, is_some, List, [], ◌∷◌, ◌++◌}
 use Rattle.std.specs.Prelude.{codes, Option, Some, None}
 use Rattle.mm_types.specs.{Text, decimal}
-use Rattle.mm_log_walk.specs.{Beside, is_bad_text, is_long_text, line_of}
+use Rattle.mm_log_walk.specs.{Beside, is_bad_text, is_long_text, line_numbered}
 
 abbrev pub line_words : ℕ → Text → Text
 line_words n words = codes "line " ++ (decimal n ++ (words ++ 10 ∷ []))
@@ -25,4 +25,4 @@ run_end_text more n (Some answer) =
 abbrev pub ending_text : Beside → Bool → ℕ → Text
 ending_text b false n = []
 ending_text b true n =
-    run_end_text (is_some (line_of b.script (n + 1))) (n + 1) (line_of b.answers (n + 1))
+    run_end_text (is_some (line_numbered b.script (n + 1))) (n + 1) (line_numbered b.answers (n + 1))

@@ -27,7 +27,7 @@ pub use Named.{failure_row}
 pub use Numbers.{has_name, union_text}
 pub use Reasons.{age_words, process_words, words_if}
 pub use Remarks.{answer_remark, bracketed, event_remark, named_numbers, bracketed_or, numbers_said}
-pub use Remarks.{remark_by, told_names, told_remark}
+pub use Remarks.{remark_by, told_names, told_remark, begins_plainly, is_plain_answer}
 unfoldable pub use Remarks.{remark_text}
 pub use Rows.{answered_row, asked_row, class_sentence_row, folded_row, is_none_left, line_row}
 pub use Rows.{names_text, padded_column, printable, printed_byte, move_row_text, said_text, row_unless_folded, trimmed}

@@ -1,6 +1,6 @@
 -- What stands behind a line of a script and its answer.
 -- Profile, "What a log shows".
-use Rattle.std.specs.Prelude.{ℕ, Bool, false, ◌||◌, nat_le, if◌then◌else◌, List, [], ◌∷◌}
+use Rattle.std.specs.Prelude.{ℕ, Bool, false, ◌||◌, ◌==◌, nat_le, if◌then◌else◌, List, [], ◌∷◌}
 use Rattle.std.specs.Prelude.{◌++◌, length, Option, Some, None, Result, Ok, Err, unwrap_or, codes}
 use Rattle.std.specs.List.{list_any}
 use Rattle.mm_types.specs.{Text, Event}
@@ -87,3 +87,15 @@ remark_by (Err f) answer = []
 unfoldable pub remark_text : Text → Option Text → Text
 remark_text line answer =
     if nat_le (length line) 256 then remark_by (parse line) answer else []
+
+-- ---- lines without a remark
+
+-- as reads and writes do, and no line whose numbers have names
+abbrev pub begins_plainly : Text → Bool
+begins_plainly [] = false
+begins_plainly (c ∷ cs) = (c == 0x72) || (c == 0x77)
+
+-- as `ok` does, and no error or status
+abbrev pub is_plain_answer : Option Text → Bool
+is_plain_answer (Some (c ∷ cs)) = c == 0x6F
+is_plain_answer _ = false

@@ -9,7 +9,7 @@ use Rattle.mm_move_rules.specs.{FrameLife}
 use Rattle.mm_move_classes.specs.{Class}
 use Rattle.mm_sentences.specs.declared.facts.Facts.{Facts}
 use Rattle.mm_sentences.specs.{kind_text, sentence_text}
-use Rattle.mm_log_walk.specs.{Beside, line_of}
+use Rattle.mm_log_walk.specs.{Beside, line_numbered}
 use Rattle.mm_transcripts.specs.Folds.{fold_row, folds_with_next}
 use Rattle.mm_transcripts.specs.Remarks.{remark_text}
 use Rattle.mm_transcripts.specs.Reasons.{words_if}
@@ -71,7 +71,7 @@ class_sentence_row addressed (Some c) x r after =
     codes "     " ++ (sentence_text addressed c x after ++ (words_if c r ++ 10 ∷ []))
 
 abbrev pub move_row_text : Beside → Move → Option Class → Facts → Option Reason → FrameLife → Text
-move_row_text b (move.At n k) c x r after = line_row n k (line_of b.script n) (line_of b.answers n)
+move_row_text b (move.At n k) c x r after = line_row n k (line_numbered b.script n) (line_numbered b.answers n)
 move_row_text b _ c x r after = class_sentence_row (is_some b.script) c x r after
 
 -- with those before it that are told in one with it, from this one on

@@ -11,7 +11,7 @@ use Rattle.mm_transcripts.specs.Ages.{AgesOf, no_ages_known, ages_after_move as 
 use Rattle.mm_transcripts.specs.Lines.{after_line}
 use Rattle.mm_transcripts.specs.Reasons.{reason_at}
 use Rattle.mm_transcripts.specs.declared.reasons.Reason.{Reason}
-use Rattle.mm_log_walk.specs.{Beside, line_of}
+use Rattle.mm_log_walk.specs.{Beside, line_numbered}
 use Rattle.mm_transcripts.specs.Folds.{first_then}
 use Rattle.mm_transcripts.specs.Ends.{ending_text}
 use Rattle.mm_transcripts.specs.Rows.{row_unless_folded}
@@ -22,7 +22,7 @@ abbrev pub has_ages : Beside → Bool
 has_ages b = is_some b.script && is_some b.answers
 
 abbrev pub ages_by : Beside → Move → AgesOf → AgesOf
-ages_by b (move.At n k) a = after_line (line_of b.script n) (line_of b.answers n) a
+ages_by b (move.At n k) a = after_line (line_numbered b.script n) (line_numbered b.answers n) a
 ages_by b m a = ages_moved m a
 
 abbrev pub ages_then : Beside → Move → AgesOf → AgesOf

@@ -8,7 +8,7 @@ use Rattle.mm_types.specs.declared.moves.LineKind.TheVariants as kind
 use Rattle.mm_types.specs.declared.moves.Move.TheVariants as move
 use Rattle.mm_script.specs.{LineFault, parse}
 use Rattle.mm_move_rules.specs.{FrameLife}
-use Rattle.mm_log_walk.specs.{line_of}
+use Rattle.mm_log_walk.specs.{line_numbered}
 
 -- ---- how many write-outs a line may begin yet
 
@@ -30,7 +30,7 @@ writes_asked (Some line) = writes_read line
 
 -- after this move; none where no script is named
 abbrev pub writes_left : Option (List Text) → ℕ → Move → ℕ
-writes_left script w (move.At n kind.Writer) = writes_asked (line_of script n)
+writes_left script w (move.At n kind.Writer) = writes_asked (line_numbered script n)
 writes_left script w (move.At n k) = 0
 writes_left script w (move.Write f s) = w - 1
 writes_left script w m = w

@@ -1,5 +1,5 @@
 ghost use Rattle.std.specs.Prelude.{◌≡◌, ◌++◌, ◌+◌, OnOk, option_map, codes, is_some};
-ghost use Rattle.mm_log_walk.specs.{beside, line_of};
+ghost use Rattle.mm_log_walk.specs.{beside, line_numbered};
 ghost use Rattle.mm_transcripts.specs.{cut_text, run_end_text, ending_text, line_words};
 
 use mm_log_walk::{Lines, is_bad_text, is_long_text};
@@ -47,7 +47,7 @@ fn put_end(more: bool, n: u64, answer: Option<&[u8]>, text: &mut Vec<u8>) -> Res
 
 /// The line behind so many.
 fn line_behind(lines: &Option<Lines>, count: u32) -> Option<&[u8]>
-    ensures { option_map (λ l. l.now) result ≡ line_of lines.now (count + 1) }
+    ensures { option_map (λ l. l.now) result ≡ line_numbered lines.now (count + 1) }
 {
     match lines {
         Some(lines) => lines.get(count as usize),

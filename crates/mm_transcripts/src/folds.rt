@@ -54,19 +54,16 @@ pub(crate) fn folds_with_next(class: Option<Class>, m: &Move, next: Option<&Move
     }
 }
 
-/// The first of the moves whose rows are one with that of the next move.
-pub(crate) fn first_then(
-    class: Option<Class>,
-    m: &Move,
-    next: Option<&Move>,
-    first: Option<Move>,
-) -> Option<Move>
-    ensures { result ≡ first_then class m.now (option_map (λ n. n.now) next.entry) first }
+/// Keeps the first of the moves whose rows are one with that of the next move. Most moves have a
+/// row of their own: nothing is written for them.
+#[inline(always)]
+pub(crate) fn keep_first(class: Option<Class>, m: &Move, next: &Move, first: &mut Option<Move>)
+    ensures { first.new ≡ first_then class m.now (Some next.now) first.old }
 {
-    if folds_with_next(class, m, next) {
-        Some(first.unwrap_or(*m))
-    } else {
-        None
+    if folds_with_next(class, m, Some(next)) {
+        *first = Some(first.unwrap_or(*m));
+    } else if first.is_some() {
+        *first = None;
     }
 }
 

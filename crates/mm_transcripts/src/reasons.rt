@@ -1,11 +1,10 @@
 ghost use Rattle.std.specs.Prelude.{◌≡◌, ◌++◌, OnOk};
-ghost use Rattle.mm_types.specs.{decimal};
 ghost use Rattle.mm_move_rules.specs.{is_above_min};
 ghost use Rattle.mm_transcripts.specs.Reasons.{age_words, process_words, reason_words};
 
 use mm_move_classes::Class;
 use mm_move_rules::ResidentSet;
-use mm_text::{LineBuf, put_decimal};
+use mm_sentences::{put_counted, put_numbered};
 use mm_types::{NoMemory, Pid};
 
 /// How a page stood right before it left its working set.
@@ -28,20 +27,6 @@ pub(crate) fn is_above_min(set: Option<ResidentSet>) -> bool
     }
 }
 
-/// Writes a number between two texts.
-#[tactic(auto, using(mm_text::proofs::DigitCounts::joined))]
-fn put_number(front: &[u8], number: u64, end: &[u8], text: &mut Vec<u8>) -> Result<(), NoMemory>
-    ensures { OnOk result (text.new.items
-        ≡ text.old.items ++ (front.now ++ (decimal number ++ end.now))) }
-{
-    let mut digits = LineBuf::new();
-    put_decimal(&mut digits, number);
-    text.extend_from_slice(front)?;
-    text.extend_from_slice(digits.as_slice())?;
-    text.extend_from_slice(end)?;
-    Ok(())
-}
-
 /// Writes the age of a page that left its working set: that it was the oldest, or the lowest of age 0.
 pub fn put_age(age: u64, text: &mut Vec<u8>) -> Result<(), NoMemory>
     ensures { OnOk result (text.new.items ≡ text.old.items ++ age_words age) }
@@ -50,7 +35,7 @@ pub fn put_age(age: u64, text: &mut Vec<u8>) -> Result<(), NoMemory>
         text.extend_from_slice(b"lowest page of age 0")?;
         return Ok(());
     }
-    put_number(b"oldest: age ", age, b"", text)
+    put_counted(b"oldest: age ", age, text)
 }
 
 /// Writes that the process of the working set was the first above its minimum, if it was.
@@ -61,13 +46,13 @@ pub fn put_process(reason: &Reason, text: &mut Vec<u8>) -> Result<(), NoMemory>
         return Ok(());
     }
     let pid = u64::from(reason.pid.0);
-    put_number(b"process ", pid, b" is the first above its minimum; ", text)
+    put_numbered(b"process ", pid, b" is the first above its minimum; ", text)
 }
 
 /// Writes, in brackets and behind a space, why a page was replaced, or was trimmed for want of
 /// frames; nothing behind a move of another class. The only error is that memory is refused; then a
 /// part may have been written.
-#[tactic(auto, using(mm_text::proofs::DigitCounts::joined))]
+#[tactic(auto, using(mm_sentences::proofs::Joined::joined))]
 pub(crate) fn put_reason(class: Class, reason: &Reason, text: &mut Vec<u8>) -> Result<(), NoMemory>
     ensures { OnOk result (text.new.items ≡ text.old.items ++ reason_words class reason.now) }
 {

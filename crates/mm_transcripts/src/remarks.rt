@@ -3,7 +3,7 @@ ghost use Rattle.std.specs.Prelude.{length, option_map, unwrap_or, [], ◌∷◌
 ghost use Rattle.std.specs.List.{list_any};
 ghost use Rattle.mm_text.specs.{number_of, words_of};
 ghost use Rattle.mm_transcripts.specs.{Number, has_name, named_numbers, bracketed, numbers_said, told_names, told_remark, bracketed_or, answer_remark};
-ghost use Rattle.mm_transcripts.specs.{event_remark, remark_by, remark_text};
+ghost use Rattle.mm_transcripts.specs.{event_remark, remark_by, remark_text, begins_plainly, is_plain_answer};
 
 use crate::failures::failure_name;
 use crate::numbers::{Number, NumberPlace, has_name, put_name};
@@ -184,16 +184,29 @@ fn put_event_remark(
     put_line_names(event, text)
 }
 
-/// Writes what stands behind a line of a script and its answer, if it has one: in brackets the
-/// name of the answer where it is an error or a status, or the names of what a `query` is told;
-/// and then, behind two spaces, the names of the line's numbers. Nothing where the line is none of
-/// a script. The only error is that memory is refused; then a part may have been written.
+/// Whether a line begins as reads and writes do.
+fn begins_plainly(line: &[u8]) -> bool
+    ensures { result ≡ begins_plainly line.now }
+{
+    match line {
+        [first, ..] => *first == b'r' || *first == b'w',
+        _ => false,
+    }
+}
+
+/// Whether an answer begins as `ok` does.
+fn is_plain_answer(answer: Option<&[u8]>) -> bool
+    ensures { result ≡ is_plain_answer (option_map (λ a. a.now) answer.entry) }
+{
+    match answer {
+        Some([first, ..]) => *first == b'o',
+        _ => false,
+    }
+}
+
+/// Writes what stands behind a line and its answer: the line is read.
 #[tactic(auto, unfolding(crate::specs::Remarks::remark_text))]
-pub(crate) fn put_remark(
-    line: &[u8],
-    answer: Option<&[u8]>,
-    text: &mut Vec<u8>,
-) -> Result<(), NoMemory>
+fn put_read_remark(line: &[u8], answer: Option<&[u8]>, text: &mut Vec<u8>) -> Result<(), NoMemory>
     ensures { OnOk result (text.new.items ≡ text.old.items
         ++ remark_text line.now (option_map (λ a. a.now) answer.entry)) }
 {
@@ -204,4 +217,24 @@ pub(crate) fn put_remark(
         Ok(event) => put_event_remark(&event, answer, text),
         Err(_) => Ok(()),
     }
+}
+
+/// Writes what stands behind a line of a script and its answer, if it has one: in brackets the
+/// name of the answer where it is an error or a status, or the names of what a `query` is told;
+/// and then, behind two spaces, the names of the line's numbers. Nothing where the line is none of
+/// a script. The only error is that memory is refused; then a part may have been written.
+#[tactic(auto, using(crate::proofs::Unnamed::unnamed))]
+pub(crate) fn put_remark(
+    line: &[u8],
+    answer: Option<&[u8]>,
+    text: &mut Vec<u8>,
+) -> Result<(), NoMemory>
+    ensures { OnOk result (text.new.items ≡ text.old.items
+        ++ remark_text line.now (option_map (λ a. a.now) answer.entry)) }
+{
+    // (most lines, which are not read for it)
+    if begins_plainly(line) && is_plain_answer(answer) {
+        return Ok(());
+    }
+    put_read_remark(line, answer, text)
 }

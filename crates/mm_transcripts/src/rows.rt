@@ -1,4 +1,4 @@
-ghost use Rattle.std.specs.Prelude.{◌≡◌, ◌-◌, ◌++◌, OnOk, replicate, option_map};
+ghost use Rattle.std.specs.Prelude.{◌≡◌, ◌-◌, ◌≤◌, ◌++◌, OnOk, replicate, option_map, true};
 ghost use Rattle.mm_replay.specs.Standing.{life as life_of};
 ghost use Rattle.mm_transcripts.specs.{words_if, trimmed, printable, printed_byte, padded_column, answered_row, asked_row, said_text, names_text, line_row};
 ghost use Rattle.mm_transcripts.specs.{class_sentence_row};
@@ -22,14 +22,16 @@ fn trimmed(line: &[u8]) -> &[u8]
     &line[..end]
 }
 
+/// As many spaces as a line has columns.
+static SPACES: [u8; 46] = [b' '; 46];
+
 /// Writes so many spaces.
 #[tactic(auto, using(crate::proofs::Trimming::spaces))]
 fn put_spaces(count: usize, text: &mut Vec<u8>) -> Result<(), NoMemory>
+    requires { count ≤ 46 }
     ensures { OnOk result (text.new.items ≡ text.old.items ++ replicate count 32) }
 {
-    for _i in 0..count {
-        text.push(b' ')?;
-    }
+    text.extend_from_slice(&SPACES[..count])?;
     Ok(())
 }
 
@@ -44,13 +46,36 @@ fn printed_byte(byte: u8) -> u8
     }
 }
 
-/// Writes the bytes of a line or of an answer as a terminal shows them.
-fn put_printed(bytes: &[u8], text: &mut Vec<u8>) -> Result<(), NoMemory>
+/// Whether a terminal shows each byte as it is.
+fn is_plain(bytes: &[u8]) -> bool
+    ensures { result ≡ true → printable bytes.now ≡ bytes.now }
+{
+    for byte in bytes {
+        if printed_byte(*byte) != *byte {
+            return false;
+        }
+    }
+    true
+}
+
+/// Writes bytes one by one as a terminal shows them.
+fn put_replaced(bytes: &[u8], text: &mut Vec<u8>) -> Result<(), NoMemory>
     ensures { OnOk result (text.new.items ≡ text.old.items ++ printable bytes.now) }
 {
     for byte in bytes {
         text.push(printed_byte(*byte))?;
     }
+    Ok(())
+}
+
+/// Writes the bytes of a line or of an answer as a terminal shows them.
+fn put_printed(bytes: &[u8], text: &mut Vec<u8>) -> Result<(), NoMemory>
+    ensures { OnOk result (text.new.items ≡ text.old.items ++ printable bytes.now) }
+{
+    if !is_plain(bytes) {
+        return put_replaced(bytes, text);
+    }
+    text.extend_from_slice(bytes)?;
     Ok(())
 }
 
@@ -129,7 +154,8 @@ pub(crate) fn put_line_row(
         (option_map (λ s. s.now) line.entry) (option_map (λ s. s.now) said.entry)) }
 {
     put_number(u64::from(number), text)?;
-    put_words(b"  ", text)?;
+    text.push(b' ')?;
+    text.push(b' ')?;
     put_asked(kind, line, said, text)?;
     put_names(line, said, text)?;
     text.push(b'\n')?;
@@ -165,7 +191,8 @@ pub(crate) fn put_class_row(
             put_words(b"     ", text)?;
             put_sentence(class, facts, addressed, after, text)?;
             put_reason_if(class, reason, text)?;
-            put_words(b"\n", text)
+            text.push(b'\n')?;
+            Ok(())
         }
         None => Ok(()),
     }

@@ -1,8 +1,8 @@
-ghost use Rattle.std.specs.Prelude.{◌≡◌, ◌++◌, Bool, List, OnOk, option_map};
+ghost use Rattle.std.specs.Prelude.{◌≡◌, ◌++◌, Bool, List, OnOk, Some, option_map};
 ghost use Rattle.mm_types.specs.{Move};
 ghost use Rattle.mm_move_rules.specs.{unstarted};
 ghost use Rattle.mm_replay.specs.Standing.{life as life_of};
-ghost use Rattle.mm_log_walk.specs.{line_of};
+ghost use Rattle.mm_log_walk.specs.{line_numbered};
 ghost use Rattle.mm_transcripts.specs.Shown.{ages_shown};
 ghost use Rattle.mm_transcripts.specs.Rows.{folded_row, move_row_text, row_unless_folded};
 ghost use Rattle.mm_transcripts.specs.Transcripts.{has_ages, ages_then, reason_then};
@@ -13,7 +13,7 @@ ghost use Rattle.mm_sentences.specs.{why_not};
 
 use crate::ages::Ages;
 use crate::ends::put_ending;
-use crate::folds::{first_then, folds_with_next, put_fold_row};
+use crate::folds::{folds_with_next, keep_first, put_fold_row};
 use crate::reasons::Reason;
 use crate::rows::{put_class_row, put_line_row};
 use crate::writers::{put_unwritten_before, put_unwritten_end, writes_asked};
@@ -25,7 +25,7 @@ use std::alloc::Global;
 
 /// A line of a script or of its answers, if that is named and has it; lines count from 1.
 fn line_of(lines: &Option<Lines>, number: u32) -> Option<&[u8]>
-    ensures { option_map (λ s. s.now) result ≡ line_of lines.now number }
+    ensures { option_map (λ s. s.now) result ≡ line_numbered lines.now number }
 {
     match lines {
         Some(lines) => lines.get(number.saturating_sub(1) as usize),
@@ -156,7 +156,7 @@ fn put_classed(
     answers: &Option<Lines>,
     first: &Option<Move>,
     next: Option<&Move>,
-    told: Option<Classed>,
+    told: &Option<Classed>,
     facts: &Facts,
     reason: &Option<Reason>,
     after: &Life,
@@ -164,23 +164,24 @@ fn put_classed(
 ) -> Result<(), NoMemory>
     ensures { OnOk result (text.new.items ≡ text.old.items
         ++ classed_row (record { script = script.now; answers = answers.now }) first.now
-        (option_map (λ n. n.now) next.entry) told facts.now reason.now (life_of after.now)) }
+        (option_map (λ n. n.now) next.entry) told.now facts.now reason.now (life_of after.now)) }
 {
     match told {
         Some(told) => put_told(
-            script, answers, first, next, &told, facts, reason, after, text,
+            script, answers, first, next, told, facts, reason, after, text,
         ),
         None => Ok(()),
     }
 }
 
-/// The first of the moves whose rows are one with that of the next.
-fn first_behind(told: Option<Classed>, next: Option<&Move>, first: Option<Move>) -> Option<Move>
-    ensures { result ≡ first_behind told (option_map (λ n. n.now) next.entry) first }
+/// Keeps the first of the moves whose rows are one with that of the next.
+#[inline(always)]
+fn keep_first_behind(told: &Option<Classed>, next: &Move, first: &mut Option<Move>)
+    ensures { first.new ≡ first_behind told.now (Some next.now) first.old }
 {
     match told {
-        Some(told) => first_then(told.class, &told.m, next, first),
-        None => None,
+        Some(told) => keep_first(told.class, &told.m, next, first),
+        None => *first = None,
     }
 }
 
@@ -252,7 +253,7 @@ impl<'a> Teller for TranscriptTeller<'a> {
             self.answers,
             &self.first,
             Some(m),
-            before,
+            &before,
             &self.facts,
             &self.reason,
             life,
@@ -260,7 +261,7 @@ impl<'a> Teller for TranscriptTeller<'a> {
         )?;
         put_unwritten_before(self.left, life, m, text)?;
         self.left = writes_left(self.script, self.left, m);
-        self.first = first_behind(before, Some(m), self.first);
+        keep_first_behind(&before, m, &mut self.first);
         self.facts = facts_of(life, m);
         self.reason = reason_then(self.script, self.answers, &self.ages, life, m);
         follow_ages(self.script, self.answers, m, &mut self.ages)?;
@@ -273,7 +274,7 @@ impl<'a> Teller for TranscriptTeller<'a> {
             self.answers,
             &self.first,
             None,
-            self.classifier.last(),
+            &self.classifier.last(),
             &self.facts,
             &self.reason,
             life,

@@ -9,7 +9,9 @@ use Rattle.std.proofs.lemmas.Bool.{eqb-true, and_parts}
 use Rattle.std.proofs.lemmas.List.Sums.{sum_by-cons}
 use Rattle.std.proofs.lemmas.Map.Entries.{sum_by-set_value, sum_by_values_permutation, sum_by-remove_entry}
 use Rattle.mm_types.specs.{holds_page, Pid, Place}
-use Rattle.mm_store.specs.{changed, changed_in, same_place, place_at}
+use Rattle.mm_store.specs.{changed_in, place_at}
+use Rattle.mm_move_rules.specs.{same_place}
+use Rattle.mm_move_rules.specs.{changed}
 use Rattle.mm_unpaged.specs.{BoundPlace, place_eq, page_count, range_from, page_in_place}
 
 -- ---- the map

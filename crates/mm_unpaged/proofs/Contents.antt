@@ -8,7 +8,8 @@ use Rattle.mm_types.proofs.{same_or_not, get_set_same, get_set_other}
 use Rattle.mm_types.specs.{Area, Key, Pid, Place, Vpn}
 use Rattle.mm_types.specs.declared.numbers.Key.TheVariants.{Private, Shared}
 use Rattle.mm_world.specs.{same_key, InFrame, Page, Tally, filled, written}
-use Rattle.mm_store.specs.{changed, same_place}
+use Rattle.mm_move_rules.specs.{same_place}
+use Rattle.mm_move_rules.specs.{changed}
 use Rattle.mm_unpaged.specs.{AreaPages, FilePage, size_of, area_pages, page_of_area, area_block, page_of_area_key, unpaged_contents, plain_paging}
 use Rattle.mm_unpaged.specs.{blocks_of, sizes_of, whereabouts_of, unpaged_report, page_of_block}
 use Rattle.mm_unpaged.specs.declared.areas.AreaPages.TheVariants.{Paged, Filed}

@@ -4,7 +4,7 @@ use Rattle.std.specs.Prelude.{◌==◌, IsSome, slice_index_or, slice_set, if◌
 use Rattle.std.specs.Cmp.{unsigned_Decides}
 use Rattle.std.proofs.lemmas.Bool.{eqb-true}
 use Rattle.std.proofs.lemmas.List.{get_or-set_same, get_or-set_other, get_or_read}
-use Rattle.mm_store.specs.{changed}
+use Rattle.mm_move_rules.specs.{changed}
 use Rattle.mm_unpaged.specs.{AreaPages, size_of, area_pages, page_of_area, area_block, one_if_live}
 use Rattle.std.specs.List.{sum_by}
 use Rattle.std.proofs.lemmas.List.Sums.{sum_by-cons}

@@ -9,7 +9,9 @@ use Rattle.mm_types.specs.{Area, Key, Pid, Place, Vpn}
 use Rattle.mm_types.specs.declared.numbers.Key.TheVariants.{Private, Shared}
 use Rattle.mm_types.proofs.{get_within}
 use Rattle.mm_world.specs.{Page, filled, written}
-use Rattle.mm_store.specs.{changed, same_place, with_file, with_blocks, HasHome}
+use Rattle.mm_store.specs.{with_file, with_blocks, HasHome}
+use Rattle.mm_move_rules.specs.{same_place}
+use Rattle.mm_move_rules.specs.{changed}
 use Rattle.mm_unpaged.specs.{AreaPages, FilePage, area_in, size_of, area_pages, page_of_area, area_block, count_of, one_if_live, no_areas, IsMade}
 use Rattle.mm_unpaged.specs.{Stored, page_in, made_page, no_page, pages_at, FilesFit, page_of_area_key, unpaged_contents, plain_paging, blocks_of}
 use Rattle.mm_unpaged.specs.{sizes_of, contents_in, store_in, page_of_block}

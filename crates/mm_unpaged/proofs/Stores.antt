@@ -7,7 +7,9 @@ use Rattle.mm_world.specs.{Page, Tally, InFrame, is_short, same_key, Need, has_f
 use Rattle.mm_world.specs.Report.{Report}
 use Rattle.mm_world.proofs.{same_again}
 use Rattle.mm_devices.specs.{DeviceOf}
-use Rattle.mm_store.specs.{Served, begun, called, fetched, eased, StoreOf, Ready, changed, pid_after, same_place, touch, copying, own_key}
+use Rattle.mm_store.specs.{Served, begun, called, fetched, eased, StoreOf, Ready, pid_after, touch, copying, own_key}
+use Rattle.mm_move_rules.specs.{same_place}
+use Rattle.mm_move_rules.specs.{changed}
 use Rattle.mm_store.specs.Reports.{Ends}
 use Rattle.mm_store.proofs.{served_nothing}
 use Rattle.mm_unpaged.specs.{unpaged_report}

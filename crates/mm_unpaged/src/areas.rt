@@ -1,6 +1,6 @@
 ghost use Rattle.std.specs.Prelude.{◌≡◌, ◌+◌, ◌-◌, ◌<◌, ◌≤◌, ◌^◌, ◌==◌, ℕ, Some, None, IsSome, IfOk, OnOk, OnErr, length, replicate, slice_set, unwrap_or, vec_len};
 ghost use Rattle.mm_world.specs.{filled, written};
-ghost use Rattle.mm_store.specs.{changed};
+ghost use Rattle.mm_move_rules.specs.{changed};
 ghost use Rattle.mm_unpaged.specs.declared.areas.AreaPages.TheVariants.{Paged};
 
 use crate::boxes::PageBox;

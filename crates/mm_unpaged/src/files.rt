@@ -1,6 +1,6 @@
 ghost use Rattle.std.specs.Prelude.{◌≡◌, ◌+◌, ◌<◌, ◌≤◌, ◌^◌, ◌⊎◌, ℕ, true, OnOk, OnErr, IfOk, is_ok, length, slice_get, slice_set};
 ghost use Rattle.mm_types.specs.declared.devices.Direction.TheVariants as way;
-ghost use Rattle.mm_devices.specs.{is_named, Serves, CallFailed};
+ghost use Rattle.mm_devices.specs.{is_next_named, Serves, CallFailed};
 ghost use Rattle.mm_world.specs.{filled, written};
 ghost use Rattle.mm_store.specs.{with_outcome, no_calls};
 ghost use Rattle.mm_unpaged.specs.Files.{IsMade, Stored, WroteDevice, unpaged_device};
@@ -101,7 +101,7 @@ pub(crate) fn write_block<F: Inject>(
       way = way.Write;
       block = block;
       succeeded = is_ok result;
-      named = is_named way.Write (F.named device.old);
+      named = is_next_named way.Write (F.named device.old);
     }) (unpaged_device F.Inject device.old) (unpaged_device F.Inject device.new) }
     ensures writes { writes.new ≡ with_outcome (is_ok result) writes.old }
     ensures blamed { OnErr result

@@ -2,7 +2,9 @@ ghost use Rattle.std.specs.Prelude.{◌≡◌, ◌+◌, ◌<◌, ◌≤◌, ◌^
 ghost use Rattle.std.specs.HashMap.{spare};
 ghost use Rattle.mm_world.specs.{filled, written};
 ghost use Rattle.mm_types.specs.{holds_page};
-ghost use Rattle.mm_store.specs.{changed, changed_in, same_place, place_at};
+ghost use Rattle.mm_store.specs.{changed_in, place_at};
+ghost use Rattle.mm_move_rules.specs.{same_place};
+ghost use Rattle.mm_move_rules.specs.{changed};
 
 use crate::boxes::PageBox;
 use mm_types::{Key, NoMemory, Pid, Place, Vpn};

@@ -1,7 +1,9 @@
 ghost use Rattle.std.specs.Prelude.{◌≡◌, ◌+◌, ◌≤◌, ◌<◌, ◌^◌, ℕ, [], true, false, None, Some, IsOk, IsSome, IfOk, IfErr, OnOk, length, unwrap_or, vec_len, vec_capacity};
 ghost use Rattle.mm_types.specs.{IsMachine};
 ghost use Rattle.mm_world.specs.{filled, written, same_key};
-ghost use Rattle.mm_store.specs.{IsNew, pid_after, nothing_behind, begun, changed, same_place};
+ghost use Rattle.mm_store.specs.{IsNew, pid_after, nothing_behind, begun};
+ghost use Rattle.mm_move_rules.specs.{same_place};
+ghost use Rattle.mm_move_rules.specs.{changed};
 ghost use Rattle.mm_devices.specs.{no_device};
 ghost use Rattle.mm_unpaged.specs.Areas.{area_in, area_block, count_in};
 ghost use Rattle.mm_unpaged.specs.Files.{IsMade};

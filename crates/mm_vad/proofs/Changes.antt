@@ -1,18 +1,19 @@
 -- What the changes of a `Space` make of its regions.
-use Rattle.std.proofs.Common.{◌≡◌, ◌≢◌, ℕ, ◌+◌, ◌-◌, ◌<◌, ◌≤◌, Bool, true, false, List, [], ◌∷◌, length, map, Option, Some, None, refl, sym, ap, ◌∙◌, subst, arith}
-use Rattle.std.specs.Prelude.{IsTrue, IsSome, IsSomeAnd, IfSome, is_some, not, nat_eq, min, option_map, find}
+use Rattle.std.proofs.Common.{◌≡◌, ◌≢◌, ℕ, ◌+◌, ◌-◌, ◌<◌, ◌≤◌, Bool, true, false, List, [], ◌∷◌, length, map, Option, Some, None, refl, sym, ap, ◌∙◌, subst, arith, ◌||◌}
+use Rattle.std.specs.Prelude.{◌==◌, IsTrue, IsSome, IsSomeAnd, IfSome, is_some, not, nat_eq, min, option_map, find}
 use Rattle.std.specs.List.{list_any}
 use Rattle.std.specs.HashMap.{HashMap, get, spare, Updates, UpdatesBy, WritesThrough}
-use Rattle.std.proofs.lemmas.Bool.{ne_eqb, and_parts, not-true}
+use Rattle.std.proofs.lemmas.Bool.{eqb-true, eqb-false, ne_eqb, and_parts, not-true}
 use Rattle.mm_types.specs.{Range, Vpn, holds_page, meets, is_free, are_user_pages, page_of, first_user_page}
 use Rattle.mm_vad.specs.{GapsOf, LieApart, add_range, remove_range, Region, SpaceOf, IsSpace, HasFlags, HasPages, LieInRegion, LieAmong, region_range}
 use Rattle.mm_vad.specs.{region_at, add_region, remove_region, change_region, Change, change_by, CanChangeAt, FitsRegion, first_and_count, regions_of}
-use Rattle.mm_vad.specs.{space_of, AllHeld, IsIndex}
+use Rattle.mm_vad.specs.{space_of, AllHeld, IsIndex, is_begun_at}
 use Rattle.mm_vad.specs.declared.regions.Change.TheVariants as change
 use Rattle.mm_world.specs.{change_range, unwritten}
 use Rattle.mm_vad.proofs.FlagLemmas.{length-change}
 use Rattle.mm_vad.proofs.Lookups.{Adds, Becomes, Keeps, Rewrites, is_space, add_held, remove_held, change_held, Found, found_by, lies_in_one, told_some}
 use Rattle.mm_vad.proofs.Joined.{length-filled}
+use Rattle.mm_vad.proofs.RangeLists.{begun_add, begun_remove}
 
 -- the index after a change, the regions that it shows, and what holds of them
 pub record Done (other : ℕ → Option Region) (ranges : List Range) (regions : List Region) : Type 0 where
@@ -20,10 +21,33 @@ pub record Done (other : ℕ → Option Region) (ranges : List Range) (regions :
   pub index : IsIndex other ranges
   pub sound : IsSpace (regions_of other ranges)
 
-done : (other : ℕ → Option Region) (ranges after : List Range) (regions : List Region) → after ≡ ranges → Becomes other ranges regions → LieApart first_user_page after → Done other after regions
-done other ranges after regions e b apart =
-    let index : IsIndex other after = record { apart = apart; held = subst (AllHeld other) (sym e) b.held } in
+done : (other : ℕ → Option Region) (ranges after : List Range) (regions : List Region) → after ≡ ranges → Becomes other ranges regions → ((q : ℕ) → IsSome (other q) → IsTrue (is_begun_at q ranges)) → LieApart first_user_page after → Done other after regions
+done other ranges after regions e b only apart =
+    let begun : (q : ℕ) → IsSome (other q) → IsTrue (is_begun_at q after) = λ q some. ap (is_begun_at q) e ∙ only q some in
+    let index : IsIndex other after = record { apart = apart; held = subst (AllHeld other) (sym e) b.held; only = begun } in
     record { shown = ap (regions_of other) e ∙ b.shown; index = index; sound = is_space other after index }
+
+-- one more is found, or one less, and so begins
+only_more : (found other : ℕ → Option Region) (new : Range) (ranges : List Range) → ((q : ℕ) → q ≢ new.first → other q ≡ found q) → ((q : ℕ) → IsSome (found q) → IsTrue (is_begun_at q ranges)) → (q : ℕ) → IsSome (other q) → IsTrue (is_begun_at q (add_range new ranges))
+only_more found other new ranges kept only q some =
+    elim (new.first == q) as (λ b. (new.first == q) ≡ b → IsTrue (is_begun_at q (add_range new ranges))) [
+      | true ↦ λ e. begun_add q new ranges ∙ ap (λ b. b || is_begun_at q ranges) e
+      | false ↦ λ e. begun_add q new ranges ∙ ap (λ b. b || is_begun_at q ranges) e ∙ only q (sym (ap is_some (kept q (λ k. eqb-false new.first q e (sym k)))) ∙ some)
+    ] refl
+
+only_less : (found other : ℕ → Option Region) (base : ℕ) (ranges : List Range) → ((q : ℕ) → q ≢ base → other q ≡ found q) → other base ≡ None → ((q : ℕ) → IsSome (found q) → IsTrue (is_begun_at q ranges)) → (q : ℕ) → IsSome (other q) → IsTrue (is_begun_at q (remove_range base ranges))
+only_less found other base ranges kept gone only q some =
+    elim (q == base) as (λ b. (q == base) ≡ b → IsTrue (is_begun_at q (remove_range base ranges))) [
+      | true ↦ λ e. (let bad : false ≡ true = sym (ap is_some (ap other (eqb-true q base e) ∙ gone)) ∙ some in cc)
+      | false ↦ λ e. (let ne = eqb-false q base e in begun_remove q base ranges ne ∙ only q (sym (ap is_some (kept q ne)) ∙ some))
+    ] refl
+
+only_same : (found other : ℕ → Option Region) (base : ℕ) (ranges : List Range) → IsSome (found base) → ((q : ℕ) → q ≢ base → other q ≡ found q) → ((q : ℕ) → IsSome (found q) → IsTrue (is_begun_at q ranges)) → (q : ℕ) → IsSome (other q) → IsTrue (is_begun_at q ranges)
+only_same found other base ranges there kept only q some =
+    elim (q == base) as (λ b. (q == base) ≡ b → IsTrue (is_begun_at q ranges)) [
+      | true ↦ λ e. only q (ap is_some (ap found (eqb-true q base e)) ∙ there)
+      | false ↦ λ e. only q (sym (ap is_some (kept q (eqb-false q base e))) ∙ some)
+    ] refl
 
 -- a key that is not the base
 not_at : (base q : ℕ) → q ≢ base → nat_eq base q ≡ false
@@ -45,13 +69,14 @@ module _ {S : Type 0} (m : HashMap ℕ Region S) (taken : GapsOf) (now : SpaceOf
         kept = λ q ne. u.2 q (not_at region.base.0 q ne);
       } in
       let b = add_held first_user_page (get nat_eq m) (get nat_eq n) new region taken.ranges adds i.apart i.held alone in
-      subst (λ (v : SpaceOf). Done (get nat_eq n) after (add_region v.regions region)) view (done (get nat_eq n) _ after _ e b apart)
+      subst (λ (v : SpaceOf). Done (get nat_eq n) after (add_region v.regions region)) view (done (get nat_eq n) _ after _ e b (only_more (get nat_eq m) (get nat_eq n) new taken.ranges adds.kept i.only) apart)
 
   -- a region less
   pub after_remove : (n : HashMap ℕ Region S) (after : List Range) (base : ℕ) → UpdatesBy nat_eq (nat_eq base) m n None → after ≡ remove_range base taken.ranges → LieApart first_user_page after → Done (get nat_eq n) after (remove_region now.regions base)
   after_remove n after base u e apart =
-      let b = remove_held first_user_page base (get nat_eq m) (get nat_eq n) taken.ranges i.apart i.held (λ q ne. u.2 q (not_at base q ne)) in
-      subst (λ (v : SpaceOf). Done (get nat_eq n) after (remove_region v.regions base)) view (done (get nat_eq n) _ after _ e b apart)
+      let kept : (q : ℕ) → q ≢ base → get nat_eq n q ≡ get nat_eq m q = λ q ne. u.2 q (not_at base q ne) in
+      let b = remove_held first_user_page base (get nat_eq m) (get nat_eq n) taken.ranges i.apart i.held kept in
+      subst (λ (v : SpaceOf). Done (get nat_eq n) after (remove_region v.regions base)) view (done (get nat_eq n) _ after _ e b (only_less (get nat_eq m) (get nat_eq n) base taken.ranges kept u.1 i.only) apart)
 
 -- ---- the changes that there are
 
@@ -143,7 +168,7 @@ module _ {S : Type 0} (m : HashMap ℕ Region S) (taken : GapsOf) (page : ℕ) (
         kept = λ q ne. updates.2 q (not_at base.0 q (λ e. ne (e ∙ first)));
       } in
       let b = change_held first_user_page page (get nat_eq m) (get nat_eq n) change region found.told.range taken.ranges rewrites i.apart i.held found.told.is in
-      let index : IsIndex (get nat_eq n) taken.ranges = record { apart = i.apart; held = b.held } in
+      let index : IsIndex (get nat_eq n) taken.ranges = record { apart = i.apart; held = b.held; only = only_same (get nat_eq m) (get nat_eq n) base.0 taken.ranges some (λ q ne. updates.2 q (not_at base.0 q ne)) i.only } in
       record {
         index = index;
         shown = ap (λ (gs : List Region). shown_as gs (min taken.spare (spare n))) b.shown

@@ -8,8 +8,8 @@ pub mod Chunked
 pub mod Forks
 pub use Changes.{Changed, Done, after_add, after_change, after_none, after_remove, can_none, fits}
 pub use Changes.{none_missing}
-pub use Lookups.{begun_shown, change_here, change_later, found_shown, none_shown, ranges_shown}
-pub use Lookups.{row_there, rows_whole, space_shown, with_base_shown}
+pub use Lookups.{begun_shown, change_here, change_later, found_at_base, found_shown, none_shown}
+pub use Lookups.{range_told, ranges_shown, row_there, rows_whole, space_shown, with_base_shown}
 pub use FreeAt.{begins_at, begins_from, begun_is, begun_left, begun_right, is_free-from}
 pub use FreeAt.{lowest_gap-fit, mapped_begins_at, mapped_begins_from, mapped_none, mapped_some}
 pub use FreeAt.{met_at, met_is, not_not, nothing_is_free}
@@ -23,8 +23,8 @@ pub use Joined.{filled_behind_chunks, filled_equal, filled_none, filled_same, fi
 pub use Joined.{filled_within_chunk, first_of_run, joined-equal, kept_behind, kept_within}
 pub use Joined.{length-filled, length-joined, length-rows, no-rows, prefix_run, read_behind}
 pub use Joined.{read_within, room_written, run_from_is, written_as}
-pub use FlagLemmas.{Left, flags_become, flags_zero, found_behind, found_in_word, left_more}
-pub use FlagLemmas.{length-flags, next_flagged, none_flagged, none_in_word, none_more, set_one}
+pub use FlagLemmas.{Left, flags_become, flags_zero, left_more, length-flags, next_flagged}
+pub use FlagLemmas.{none_flagged}
 pub use Chunked.{chunk_filled, chunk_written, chunks_become, chunks_made, each_read, equal_read}
 pub use Chunked.{inside, length-chunks, no_chunks, owned_same, place_read, places_kept, room_left}
 pub use Chunked.{room_seen, rows_made, rows_read, rows_same, rows_seen, stands, written_out}

@@ -1,8 +1,8 @@
 -- Regions found by their bases, and by the ranges of their pages.
 use Rattle.std.proofs.Common.{◌≡◌, ◌≢◌, ℕ, suc, ◌+◌, ◌<◌, ◌≤◌, Bool, true, false, cond, List, [], ◌∷◌, length, Option, Some, None, refl, sym, ap, ◌∙◌, subst, arith, ◌-◌}
-use Rattle.std.specs.Prelude.{find, insert, remove, count_by, nat_lt, ◌==◌, not, option_and_then, IsSomeAnd, All, ◌||◌, option_map, nat_eq, nat_le, IsSome}
+use Rattle.std.specs.Prelude.{find, insert, remove, count_by, nat_lt, ◌==◌, not, option_and_then, IsSomeAnd, All, ◌||◌, option_map, nat_eq, nat_le, IsSome, is_some}
 use Rattle.std.specs.List.{cons_option, position_or_len, list_any}
-use Rattle.std.proofs.lemmas.Bool.{eqb-true, eqb-false, ltb-true, ltb-false, lt-ltb, le-ltb, and_from, or_parts, leb-true, and_parts}
+use Rattle.std.proofs.lemmas.Bool.{eqb-true, eqb-false, ltb-true, ltb-false, lt-ltb, le-ltb, le-leb, and_from, or_parts, leb-true, and_parts, and_right}
 use Rattle.std.proofs.lemmas.List.Elements.{All-nil, All-cons, All-head, All-tail}
 use Rattle.std.proofs.lemmas.List.Sums.{sum_by-cons}
 use Rattle.mm_types.specs.{Range, end_of, meets, holds_page, first_user_page, Vpn}
@@ -377,6 +377,21 @@ module _ (found : ℕ → Option Region) (ranges : List Range) (index : IsIndex 
         flags = subst (λ (n : ℕ). HasFlags n p.region) (sym (ap (λ (r : Range). r.count) p.pages)) p.flags;
       })
 
+-- where ranges lie apart, the one that begins at the base is found by each page that it holds
+found_where : (low base page : ℕ) (rs : List Range) (r : Range) → LieApart low rs → find (λ x. x.first == base) rs ≡ Some r → holds_page r page ≡ true → find (λ x. holds_page x page) rs ≡ Some r
+found_where low base page [] r a e h = cc
+found_where low base page (x ∷ xs) r a e h =
+    elim (x.first == base) as (λ b. cond b (Some x) (find (λ y. y.first == base) xs) ≡ Some r → cond (holds_page x page) (Some x) (find (λ y. holds_page y page) xs) ≡ Some r) [
+      | true ↦ λ k. (
+          let same : r ≡ x = cc in
+          ap (λ (b : Bool). cond b (Some x) (find (λ y. holds_page y page) xs)) (ap (λ (y : Range). holds_page y page) (sym same) ∙ h) ∙ ap (λ (y : Range). Some y) (sym same))
+      | false ↦ λ k. (
+          let above = find_low (end_of x) (λ y. y.first == base) xs r a.1 k in
+          let from = leb-true r.first page (and_parts (nat_le r.first page) (nat_lt page (end_of r)) h).0 in
+          let not_here : holds_page x page ≡ false = and_right (nat_le x.first page) (nat_lt page (end_of x)) (le-ltb page (end_of x) (omega (arith, above, from))) in
+          ap (λ (b : Bool). cond b (Some x) (find (λ y. holds_page y page) xs)) not_here ∙ found_where (end_of x) base page xs r a.1 k h)
+    ] e
+
 -- the region in which a page lies, as it is found by its base
 pub record Found (found : ℕ → Option Region) (ranges : List Range) (page base : ℕ) (regions : List Region) : Type 0 where
   pub region : Region
@@ -424,6 +439,30 @@ module _ {S : Type 0} (m : HashMap ℕ Region S) (taken : GapsOf) (now : SpaceOf
   found_shown t base n some =
       let told = told_some _ base n some in
       sym (seen t (Some told.range) told.is ∙ ap (get nat_eq m) told.first)
+
+  -- the region of a page tells of its range
+  pub range_told : (page : ℕ) (region : Region) → Some region ≡ region_at now.regions page → Some (region.base, region.pages) ≡ option_map told_of (find (λ r. holds_page r page) taken.ranges)
+  range_told page region e =
+      elim (find (λ r. holds_page r page) taken.ranges) as (λ o. find (λ r. holds_page r page) taken.ranges ≡ o → Some (region.base, region.pages) ≡ option_map told_of o) [
+        | None ↦ λ k. (let bad : Some region ≡ None = e ∙ seen (λ r. holds_page r page) None k in cc)
+        | Some r ↦ λ k. (
+            let p = pair_of (get nat_eq m) r (found_range (get nat_eq m) (λ r. holds_page r page) taken.ranges r i.held k).1 in
+            let both : Some region ≡ Some p.region = e ∙ seen (λ r. holds_page r page) (Some r) k ∙ p.there in
+            let same : region ≡ p.region = cc in
+            ap (λ (g : Region). Some (told_of (region_range g))) same ∙ ap (λ (x : Range). Some (told_of x)) p.pages)
+      ] refl
+
+  -- the region that is found at a base is that of each of its pages
+  pub found_at_base : (base page : ℕ) (region : Region) → Some region ≡ get nat_eq m base → base ≤ page → page < base + region.pages → region_at now.regions page ≡ Some region
+  found_at_base base page region e low high =
+      let one = one_begins (λ r. r.first == base) taken.ranges (i.only base (ap is_some (sym e))) in
+      let here = eqb-true one.0.first base one.2 in
+      let p = pair_of (get nat_eq m) one.0 (found_range (get nat_eq m) (λ r. r.first == base) taken.ranges one.0 i.held one.1).1 in
+      let both : Some region ≡ Some p.region = e ∙ sym (ap (get nat_eq m) here) ∙ p.there in
+      let same : region ≡ p.region = cc in
+      let count : one.0.count ≡ region.pages = sym (ap (λ (r : Range). r.count) p.pages) ∙ sym (ap (λ (g : Region). g.pages) same) in
+      let holds : holds_page one.0 page ≡ true = and_from (nat_le one.0.first page) (nat_lt page (end_of one.0)) (le-leb one.0.first page (omega (arith, here, low))) (lt-ltb page (end_of one.0) (omega (arith, here, high, count))) in
+      seen (λ r. holds_page r page) (Some one.0) (found_where first_user_page base page taken.ranges one.0 i.apart one.1 holds) ∙ p.there ∙ ap (λ (g : Region). Some g) (sym same)
 
   -- a region has the base where a range begins there
   module _ (base : ℕ) where

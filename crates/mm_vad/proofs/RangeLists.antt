@@ -1,9 +1,9 @@
 -- Lists of ranges that lie apart: what is added, taken out and found, and what a search visits.
-use Rattle.std.proofs.Common.{◌≡◌, ℕ, ◌+◌, ◌≤◌, List, [], ◌∷◌, ◌++◌, length, ap, ◌∙◌, arith, length-append, ◌<◌, true, false, cond, eqb, ltb, refl, ◌⊎◌, inl, inr, not, IsTrue, Bool, leb, ◌&&◌, Option, Some, None, option_map, ◌*◌, ◌^◌, zero, suc, sym}
+use Rattle.std.proofs.Common.{◌≡◌, ◌≢◌, ◌||◌, ℕ, ◌+◌, ◌≤◌, List, [], ◌∷◌, ◌++◌, length, ap, ◌∙◌, arith, length-append, ◌<◌, true, false, cond, eqb, ltb, refl, ◌⊎◌, inl, inr, not, IsTrue, Bool, leb, ◌&&◌, Option, Some, None, option_map, ◌*◌, ◌^◌, zero, suc, sym}
 use Rattle.mm_types.specs.{Range, end_of, end_of_user_pages, first_user_page, meets, is_free, are_user_pages, holds_page}
-use Rattle.mm_vad.specs.{FollowsFrom, LieApart, end_after, add_range, remove_range, TreeOf, IsShaped, VisitsAtMost, VisitsFew, repeated, Region}
+use Rattle.mm_vad.specs.{FollowsFrom, LieApart, end_after, add_range, remove_range, is_begun_at, TreeOf, IsShaped, VisitsAtMost, VisitsFew, repeated, Region}
 use Rattle.mm_vad.specs.{IsSpace, region_range, region_ranges}
-use Rattle.std.proofs.lemmas.Bool.{lt-ltb, le-ltb, eq-eqb, ne_eqb, ltb-true, ltb-false, or_parts, and_cases, and_parts, not-true, leb-true, le-leb, lt-leb}
+use Rattle.std.proofs.lemmas.Bool.{lt-ltb, le-ltb, eq-eqb, eqb-true, ne_eqb, ltb-true, ltb-false, or_parts, and_cases, and_parts, not-true, leb-true, le-leb, lt-leb}
 use Rattle.std.specs.Prelude.{nat_le, find, All}
 use Rattle.std.specs.List.{list_any}
 use Rattle.std.specs.Option.{option_or}
@@ -252,3 +252,30 @@ each_from low (x ∷ xs) le a =
 
 pub each_region : (gs : List Region) → IsSpace gs → All (λ g. FollowsFrom first_user_page (region_range g)) gs
 each_region gs s = each_from first_user_page gs (omega arith) s.apart
+
+-- ---- where ranges begin after a change
+
+or_swap : (a b c : Bool) → (a || (b || c)) ≡ (b || (a || c))
+or_swap true true c = refl
+or_swap true false c = refl
+or_swap false b c = refl
+
+-- ranges begin where they began, and where the new one does
+pub begun_add : (first : ℕ) (r : Range) (xs : List Range) → is_begun_at first (add_range r xs) ≡ (eqb r.first first || is_begun_at first xs)
+begun_add first r [] = refl
+begun_add first r (x ∷ xs) =
+    elim (ltb r.first x.first) as (λ b. is_begun_at first (cond b (r ∷ x ∷ xs) (x ∷ add_range r xs)) ≡ (eqb r.first first || (eqb x.first first || is_begun_at first xs))) [
+      | true ↦ refl
+      | false ↦ ap (λ b. eqb x.first first || b) (begun_add first r xs) ∙ or_swap (eqb x.first first) (eqb r.first first) (is_begun_at first xs)
+    ]
+
+-- but where the one that goes did
+pub begun_remove : (first gone : ℕ) (xs : List Range) → first ≢ gone → is_begun_at first (remove_range gone xs) ≡ is_begun_at first xs
+begun_remove first gone [] other = refl
+begun_remove first gone (x ∷ xs) other =
+    elim (eqb x.first gone) as (λ b. eqb x.first gone ≡ b → is_begun_at first (cond b xs (x ∷ remove_range gone xs)) ≡ (eqb x.first first || is_begun_at first xs)) [
+      | true ↦ λ e. (
+          let here : x.first ≡ gone = eqb-true x.first gone e in
+          sym (ap (λ b. b || is_begun_at first xs) (ne_eqb x.first first (λ k. other (sym k ∙ here)))))
+      | false ↦ λ e. ap (λ b. eqb x.first first || b) (begun_remove first gone xs other)
+    ] refl

@@ -1,8 +1,8 @@
 -- How a `Space` holds its regions: by their bases, in the order of the ranges that they take.
-use Rattle.std.specs.Prelude.{◌≡◌, ℕ, min, List, [], ◌∷◌, length, Option, IsSomeAnd}
+use Rattle.std.specs.Prelude.{◌≡◌, ℕ, min, List, [], ◌∷◌, length, Option, IsSome, IsSomeAnd, IsTrue}
 use Rattle.std.specs.List.{cons_option}
 use Rattle.mm_types.specs.{Range, first_user_page}
-use Rattle.mm_vad.specs.Ranges.{GapsOf, LieApart}
+use Rattle.mm_vad.specs.Ranges.{GapsOf, LieApart, is_begun_at}
 use Rattle.mm_vad.specs.declared.regions.Region.{Region}
 use Rattle.mm_vad.specs.Regions.{SpaceOf, region_range, HasFlags}
 
@@ -29,6 +29,8 @@ abbrev pub AllHeld : (ℕ → Option Region) → List Range → Type 0
 AllHeld found [] = Unit {0}
 AllHeld found (r ∷ rs) = IsHeld found r × AllHeld found rs
 
+-- each range has its region, and no other region is found
 pub record IsIndex (found : ℕ → Option Region) (ranges : List Range) : Type 0 where
   pub apart : LieApart first_user_page ranges
   pub held : AllHeld found ranges
+  pub only : (base : ℕ) → IsSome (found base) → IsTrue (is_begun_at base ranges)

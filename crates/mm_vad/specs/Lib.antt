@@ -27,7 +27,7 @@ pub use Room.{aligned, end_after, first_fit, lowest, room, widest}
 pub use Shape.{DifferByAtMost, IsBalanced, IsFork, IsShaped, IsTurned, TreeOf, VisitsAtMost}
 pub use Nodes.{Alike, Became, IsNode, IsSpan, IsTree, MayLeanAt, range_in, ranges_under}
 pub use Nodes.{taken_range, tree_at, tree_of}
-pub use Bits.{IsNextSet, NoneSet, bit_flag}
+pub use Bits.{bit_flag}
 unfoldable pub use Bits.{word_flags}
 pub use declared.chunks.Chunk.{Chunk}
 pub use declared.ledgers.Counter.{Counter}

@@ -1,34 +1,14 @@
 ghost use Rattle.std.specs.Prelude.{◌≡◌, ℕ, ◌+◌, ◌*◌, ◌<◌, ◌≤◌, Bool, true, false, length, replicate, IfOk, IfSome, IfNone};
-ghost use Rattle.std.specs.Int.{bit_at};
 ghost use Rattle.mm_world.specs.{change_range};
-ghost use Rattle.mm_bits.specs.{have_bit};
-ghost use Rattle.mm_vad.specs.Bits.{word_flags, NoneSet, IsNextSet, bit_flag};
+ghost use Rattle.mm_bits.specs.{IsLowestFrom, NoneWithin};
+ghost use Rattle.mm_vad.specs.Bits.{bit_flag};
 
-use mm_bits::put_bits;
+use mm_bits::{next_bit, put_bit, put_bits};
 use mm_types::NoMemory;
 use std::alloc::Global;
 use std::marker::Model;
 
 const BITS: usize = 64;
-
-/// The lowest bit that is set from `first` on and below `end`, by looking at one word at a time.
-fn next_set(words: &Vec<u64>, first: u32, end: u32) -> Option<u32>
-    requires { end ≤ 64 * length words.now.items }
-    ensures found { IfSome result (IsNextSet (have_bit words.now.items) first end) }
-    ensures none { IfNone result (NoneSet (have_bit words.now.items) first end) }
-{
-    let end = end as usize;
-    let mut at = first as usize;
-    while at < end {
-        let rest = words[at / BITS] >> (at % BITS);
-        if rest != 0 {
-            let next = at + rest.trailing_zeros() as usize;
-            return if next < end { Some(next as u32) } else { None };
-        }
-        at = (at / BITS + 1) * BITS;
-    }
-    None
-}
 
 /// A row of bits.
 #[derive(Drop)]
@@ -65,9 +45,7 @@ impl Bits {
         requires { i < length self.old }
         ensures { self.new ≡ change_range (λ _. true) i 1 self.old }
     {
-        let i = i as usize;
-        let word = self.words[i / BITS];
-        self.words[i / BITS] = word | 1 << (i % BITS);
+        put_bit(&mut self.words, i as usize, true);
     }
 
     /// Clears `n` bits from `first` on.
@@ -82,9 +60,13 @@ impl Bits {
     /// The lowest bit that is set from `first` on and below `end`.
     pub fn next(&self, first: u32, end: u32) -> Option<u32>
         requires { end ≤ length self.now }
-        ensures found { IfSome result (IsNextSet (bit_flag self.now) first end) }
-        ensures none { IfNone result (NoneSet (bit_flag self.now) first end) }
+        ensures found { IfSome result (IsLowestFrom (bit_flag self.now) first) }
+        ensures within { IfSome result (λ i. i < end) }
+        ensures none { IfNone result (NoneWithin (bit_flag self.now) first end) }
     {
-        next_set(&self.words, first, end)
+        match next_bit(&self.words, first as usize, end as usize) {
+            Some(i) => Some(i as u32),
+            None => None,
+        }
     }
 }

@@ -8,6 +8,7 @@ use crate::{Ledger, Steps};
 use mm_types::{END_OF_USER_PAGES, FIRST_USER_PAGE, NoMemory, Vpn};
 use std::alloc::Global;
 use std::marker::Model;
+use std::mem;
 
 /// The ranges of user pages that are taken, in a balanced tree, and some spare nodes for more.
 /// Windows keeps the like for each process: its tree of virtual address descriptors (VAD).
@@ -16,6 +17,8 @@ pub struct Gaps {
     tree: Tree,
     /// Nodes for ranges to come.
     stock: Vec<Box<Node>>,
+    /// The node of a range that went, for one to come.
+    used: Option<Box<Node>>,
     alloc: Global,
 }
 
@@ -39,6 +42,7 @@ impl Gaps {
         Gaps {
             tree: Tree::new(),
             stock: Vec::new(alloc),
+            used: None,
             alloc,
         }
     }
@@ -51,7 +55,10 @@ impl Gaps {
         ensures cause { OnErr result (self.old.spare ≡ 0) }
     {
         if self.stock.is_empty() {
-            let node = Box::new(self.alloc, Node::blank())?;
+            let node = match mem::replace(&mut self.used, None) {
+                Some(node) => node,
+                None => Box::new(self.alloc, Node::blank())?,
+            };
             self.stock.push(node)?;
         }
         Ok(())
@@ -78,8 +85,8 @@ impl Gaps {
         self.tree.insert(node);
     }
 
-    /// Gives the range that begins at `first` free. Its node is let go, and the spare room stays as
-    /// it was.
+    /// Gives the range that begins at `first` free. Its node is kept for `reserve`, and the spare
+    /// room stays as it was.
     pub fn remove(&mut self, first: Vpn)
         requires { IsTrue (is_begun_at first.0 self.old.ranges) }
         ensures after { self.new ≡ record self.old {
@@ -87,7 +94,8 @@ impl Gaps {
         } }
         ensures apart { LieApart first_user_page self.new.ranges }
     {
-        self.tree.remove(first.0);
+        let (node, _) = self.tree.remove(first.0);
+        self.used = Some(node);
     }
 
     /// The range that holds page `v`: its first page, and how many pages it has. None exactly where

@@ -1,14 +1,17 @@
-ghost use Rattle.std.specs.Prelude.{◌≡◌, ◌+◌, ◌-◌, ◌<◌, ◌≤◌, true, false, [], length, IsTrue, IsSome, OnOk, OnErr, option_map};
+ghost use Rattle.std.specs.Prelude.{◌≡◌, ◌+◌, ◌-◌, ◌<◌, ◌≤◌, true, false, [], length, IsTrue, IsSome, IfSome, Some, OnOk, OnErr, option_map};
 ghost use Rattle.std.specs.Option.{option_copied};
 ghost use Rattle.mm_types.specs.{is_free, lowest_gap};
 ghost use Rattle.mm_vad.specs.Ranges.{page_number};
 
 use crate::regions::Change;
 use crate::{Gaps, Region, Row, Steps, Uncounted};
-use mm_types::{FIRST_USER_PAGE, NoMemory, PageList, Vpn};
+use mm_types::{FIRST_USER_PAGE, GRANULE_PAGES, NoMemory, PageList, Vpn};
 use std::alloc::Global;
 use std::collections::HashMap;
 use std::marker::Model;
+
+// Among so many regions the way down the tree is short.
+const FEW_REGIONS: usize = 16;
 
 /// The regions of one address space, no page in two of them.
 #[derive(Drop)]
@@ -51,8 +54,32 @@ impl Space {
         ensures found { option_copied result ≡ region_at self.now.regions v.0 }
         ensures sound { IsSpace self.now.regions }
     {
-        let (base, _) = self.taken.at(v)?;
+        let taken = &self.taken;
+        if let Some(region) = self.begun_with_granule(v) {
+            return Some(region);
+        }
+        let (base, _) = taken.at(v)?;
         self.regions.get(&base.0)
+    }
+
+    // Among many regions the one that begins with the granule of page `v`, where the page lies in
+    // it: small regions are found so, without a walk down the tree.
+    #[inline(always)]
+    fn begun_with_granule(&self, v: Vpn) -> Option<&Region>
+        ensures { IfSome result (λ r. Some r.now ≡ region_at self.now.regions v.0) }
+    {
+        if self.regions.len() <= FEW_REGIONS {
+            return None;
+        }
+        let at = v.0 % GRANULE_PAGES;
+        let Some(region) = self.regions.get(&(v.0 - at)) else {
+            return None;
+        };
+        if at < region.pages {
+            Some(region)
+        } else {
+            None
+        }
     }
 
     /// The first region whose base is page `v` or above it. None exactly where none begins there.
@@ -73,9 +100,10 @@ impl Space {
         } }
         ensures sound { IsSpace self.new.regions }
     {
-        let Some((base, _)) = self.taken.at(v) else {
+        let Some(found) = self.find(v) else {
             unreachable!()
         };
+        let base = found.base;
         let Some(region) = self.regions.get_mut(&base.0) else {
             unreachable!()
         };

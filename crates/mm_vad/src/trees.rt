@@ -183,7 +183,7 @@ impl Tree {
             self.old.height (self.old.height + 1) result }
     {
         let Some(top) = &mut self.root else {
-            *self = fork(Tree::new(), node, Tree::new());
+            plant(self, node);
             return true;
         };
         if node.pages.first < top.pages.first {
@@ -328,6 +328,17 @@ fn fork(left: Tree, mut node: Box<Node>, right: Tree) -> Tree
     let pages = node.pages;
     *node = node_over(left, pages, right);
     Tree { root: Some(node) }
+}
+
+/// The range of `node` becomes the only one of a tree that has none. It is not inlined, so that the
+/// way down does not pay for the room that this takes.
+#[inline(never)]
+fn plant(tree: &mut Tree, node: Box<Node>)
+    requires bare { tree.old ≡ record { ranges = []; height = 0 } }
+    requires within { end_of (range_in node.value) ≤ end_of_user_pages }
+    ensures { IsFork tree.new tree.old (range_in node.value) tree.old }
+{
+    *tree = fork(Tree::new(), node, Tree::new());
 }
 
 /// A range between two trees that are about as high, with what is kept of them.

@@ -11,10 +11,10 @@ use Rattle.std.specs.Ordering.{nat_cmp}
 use Rattle.std.specs.FinMap as finite
 use Rattle.mm_types.specs.{found}
 use Rattle.mm_types.proofs.{get_table, is_insert, is_remove, same}
-use Rattle.mm_bits.specs.{have_bit}
-use Rattle.mm_working_sets.specs.{older, AgesBy, turned, next_newest, IsLowestFrom, put_at, NoneFrom, numbers_below, is_in, group_below, group_in, age_in}
+use Rattle.mm_bits.specs.{have_bit, IsLowestFrom, put_at, NoneFrom}
+use Rattle.mm_working_sets.specs.{older, AgesBy, turned, next_newest, numbers_below, is_in, group_below, group_in, age_in}
 use Rattle.mm_working_sets.specs.{ages_by_group, is_group, AreGrouped, IsGrouped, PutsPage, Joins, retired_to}
-use Rattle.mm_working_sets.proofs.RowLemmas.{empty_bits}
+use Rattle.mm_bits.proofs.{no_bits}
 use Rattle.mm_working_sets.proofs.RingLemmas.{turned_newest, turned_older, next_turns}
 
 -- ---- the group of a page
@@ -101,7 +101,7 @@ module _ (newest : ℕ) (sets : List (List ℕ)) (is : AreGrouped sets (group_in
 
 is_in_past : (sets : List (List ℕ)) (g v : ℕ) → length sets ≤ g → is_in sets g v ≡ false
 unfolding is_in
-is_in_past sets g v past = ap (λ (ws : List ℕ). have_bit ws v) (get_or_past sets g [] past) ∙ empty_bits [] refl v
+is_in_past sets g v past = ap (λ (ws : List ℕ). have_bit ws v) (get_or_past sets g [] past) ∙ no_bits [] refl v
 
 pub set_within : (sets : List (List ℕ)) (g v : ℕ) → is_in sets g v ≡ true → g < length sets
 set_within sets g v held = elim (cases_lt g (length sets)) [
@@ -431,6 +431,6 @@ none_pushed sets s none empty g v = elim (cases_lt g (length sets)) [
   | inr far ↦
       ap (λ (ws : List ℕ). have_bit ws v) (get_or-append_right sets (s ∷ []) (length sets) g [] refl far) ∙ (elim (cases_eq (g - length sets) 0) [
         | inl here ↦ ap (λ (k : ℕ). have_bit (get_or (s ∷ []) k []) v) here ∙ empty v
-        | inr past ↦ ap (λ (ws : List ℕ). have_bit ws v) (get_or_past (s ∷ []) (g - length sets) [] (omega (arith, past))) ∙ empty_bits [] refl v
+        | inr past ↦ ap (λ (ws : List ℕ). have_bit ws v) (get_or_past (s ∷ []) (g - length sets) [] (omega (arith, past))) ∙ no_bits [] refl v
       ])
 ]

@@ -1,5 +1,4 @@
 pub mod RingLemmas
-pub mod RowLemmas
 pub mod GroupLemmas
 pub mod OrderLemmas
 pub mod UserLemmas
@@ -7,10 +6,6 @@ pub mod MapLemmas
 pub mod YoungLemmas
 pub mod SetLemmas
 pub use RingLemmas.{turned_back}
-pub use RowLemmas.{bit_within, bits_now, clears_one, empty_bits, empty_set, filled_within}
-pub use RowLemmas.{found_above, found_in_word, lowest_of, next_top_none, none_above, none_in_word}
-pub use RowLemmas.{none_next, none_past, none_until, page_low, puts_one, read_bit, set_passed}
-pub use RowLemmas.{set_stayed, top_answered}
 pub use GroupLemmas.{added, ages_insert, ages_remove, empty_ages, empty_sets, get-ages}
 pub use GroupLemmas.{group_of_set, in_all, in_read, joins_all, joins_empty, joins_more}
 pub use GroupLemmas.{lowest_in_set, nine_sets, no_group, no_kept, none_held, none_in_set}

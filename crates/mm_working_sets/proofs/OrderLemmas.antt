@@ -4,7 +4,8 @@ use Rattle.std.proofs.lemmas.Bool.{cases_eq, cases_lt}
 use Rattle.std.specs.Prelude.{IsSome, is_some, option_map, MatchOption}
 use Rattle.std.specs.FinMap as finite
 use Rattle.mm_types.specs.{Vpn}
-use Rattle.mm_working_sets.specs.{GoesBefore, IsOldestInSet, NoneFollowsInSet, turned, IsNextFrom, IsLowestFrom, NoneFrom, is_in, group_in, age_in}
+use Rattle.mm_bits.specs.{IsLowestFrom, NoneFrom}
+use Rattle.mm_working_sets.specs.{GoesBefore, IsOldestInSet, NoneFollowsInSet, turned, IsNextFrom, is_in, group_in, age_in}
 use Rattle.mm_working_sets.specs.{ages_by_group, AreGrouped, IsFirstOf, GoesFirst, IsBelow, NoAgeWithin}
 use Rattle.mm_working_sets.proofs.GroupLemmas.{get-ages, set_of_group, group_of_set, none_held}
 use Rattle.mm_working_sets.proofs.RingLemmas.{turned_back}

@@ -1,16 +1,12 @@
 pub mod Ages
 pub mod InOrder
 pub mod Ring
-pub mod Rows
 pub mod AgeGroups
 pub mod Held
 pub use Ages.{AgesBy, EachAtOnePlace, GoesAfter, GoesBefore, IsOldestInSet, NoneFollowsInSet}
 pub use Ages.{WorkingSetOf, older}
-pub use InOrder.{IsLowestFrom, IsNextFrom}
+pub use InOrder.{IsNextFrom}
 pub use Ring.{next_newest, turned}
-pub use Rows.{IsPageSet, NoneFrom, NoneWithin, PutsBit, PutsBits, ReachesIndex, Sums, put_at}
-pub use Rows.{word_end}
-unfoldable pub use Rows.{is_filled}
 pub use AgeGroups.{AreGrouped, GoesFirst, IsBelow, IsFirstOf, IsGrouped, Joins, NoAgeWithin}
 pub use AgeGroups.{NoneOlder, PutsPage, age_in, is_group, retired_to}
 unfoldable pub use AgeGroups.{ages_by_group, group_below, group_in, is_in, numbers_below}

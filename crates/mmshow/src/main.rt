@@ -8,7 +8,7 @@ use mm_html::{
     UP_TO_SCRIPT,
 };
 use mm_io::{StdSink, StdSource, buffered, exit_code, words};
-use mm_show::{PageTexts, run_show};
+use mm_show::{PageTexts, first_file, run_show};
 use mm_types::NoMemory;
 use std::alloc::Global;
 use std::fs::File;
@@ -116,26 +116,6 @@ fn command<'a>(alloc: Global) -> Result<Command<'a>, NoMemory> {
     Ok(command)
 }
 
-/// The word at a place; the empty text where there is none.
-fn word(words: &[String], place: usize) -> &[u8] {
-    match words.get(place) {
-        Some(word) => word.as_bytes(),
-        None => &[],
-    }
-}
-
-/// The place of the first word that names a file, if the words are a form that has files.
-fn files_at(words: &[String]) -> Option<usize> {
-    let name = word(words, 0);
-    if name == b"html".as_slice() || name == b"tell".as_slice() || name == b"events".as_slice() {
-        Some(1)
-    } else if name == b"counts".as_slice() && word(words, 1) == b"csv".as_slice() {
-        Some(2)
-    } else {
-        None
-    }
-}
-
 /// The file that the word at a place behind others names, if there is such a word and the file can
 /// be opened.
 fn named(
@@ -190,7 +170,7 @@ fn show(rt: &HostRuntime) -> Result<u8, NoMemory> {
         return tell(rt, command(alloc)?, &words);
     }
     let _streams = [barred(rt), barred(rt), barred(rt)];
-    let first = files_at(&words);
+    let first = first_file(alloc, &words)?;
     let mut script = named(rt, &words, first, 0);
     let mut answers = named(rt, &words, first, 1);
     let mut observations = named(rt, &words, first, 2);

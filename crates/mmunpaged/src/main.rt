@@ -6,7 +6,8 @@ ghost use Rattle.std.specs.Prelude.{◌≡◌, ◌≤◌, ◌<◌, ◌+◌, fals
 ghost use Rattle.mm_devices.specs.{empty_block};
 ghost use Rattle.mm_script.specs.{IsWellFormed};
 ghost use Rattle.mm_store.specs.{IsNew};
-ghost use Rattle.mm_dispatch.specs.{is_machine, line_number};
+ghost use Rattle.mm_dispatch.specs.{line_number};
+ghost use Rattle.mm_script.specs.{is_machine};
 
 use mm_devices::{BlockDevice, Injected, MemBlocks};
 use mm_dispatch::{World, is_machine};

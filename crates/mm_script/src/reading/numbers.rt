@@ -1,5 +1,5 @@
 ghost use Rattle.std.specs.Prelude.{◌≡◌, ◌≤◌, true, length, Some};
-ghost use Rattle.mm_script.specs.{is_plain, IfTrue, made_with, ranges_of, line_of, IsPut};
+ghost use Rattle.mm_script.specs.{is_plain, IfTrue, made_with, ranges_for, line_of, IsPut};
 
 use crate::LineFault;
 use crate::fields::{Fields, MOST_NUMBERS, Range};
@@ -18,7 +18,7 @@ const TIMES: Range = Range(0, 1_000_000);
 /// The numbers behind a keyword, where only numbers stand there.
 #[inline(always)]
 fn ranges_of(keyword: Keyword) -> &'static [Range]
-    ensures ranges { IfTrue (is_plain keyword) (result.now ≡ ranges_of keyword) }
+    ensures ranges { IfTrue (is_plain keyword) (result.now ≡ ranges_for keyword) }
     ensures few { length result.now ≤ MOST_NUMBERS }
 {
     match keyword {

@@ -10,7 +10,7 @@ loop-told-preserved c =
     let flags = c.args.flags.now in
     let base = c.args.base in
     let end = c.args.first - base + c.args.n in
-    let step = next_between flags base c.loop-told.at end c.requires.high c.in-Some.i c.in-Some.ensures.found in
+    let step = next_between flags base c.loop-told.at end c.requires.high c.in-Some.i c.in-Some.ensures.within c.in-Some.ensures.found in
     let later = written_between flags base (c.in-Some.i + 1) end in
     record {
       few = omega (arith, ap length c.push.ensures, length_push c.loop-told.pages ((base + c.in-Some.i) * 4096), c.loop-told.invariant.few);

@@ -3,7 +3,8 @@ use Rattle.mm_types.specs.declared.answers.Answer.TheVariants as answer
 use Rattle.mm_types.specs.declared.protections.Access.TheVariants as access_kind
 use Rattle.mm_types.specs.{Key, page_of, page_size}
 use Rattle.mm_world.specs.{WriteOf, written, Tables, world_with, same_key, private_key, set_row, done, Page}
-use Rattle.mm_store.specs.{place_at, touch, copying, changed}
+use Rattle.mm_store.specs.{place_at, touch, copying}
+use Rattle.mm_move_rules.specs.{changed}
 use Rattle.mm_object_tables.specs.{key_bytes, MadeAtMost}
 use Rattle.mm_dispatch.specs.{CanAccess}
 use Rattle.mm_dispatch.proofs.{access-had, access-lost, copies_tell, touches_tell, gives_ok, twice-others, twice-at, changed-others, changed-at}

@@ -2,7 +2,9 @@ use Rattle.std.proofs.Common.{◌≡◌, ◌∙◌, sym, ap, subst, arith, Some,
 use Rattle.std.specs.Prelude.{Result, Ok, Err}
 use Rattle.mm_types.specs.{Key, page_of, PageFault, Place}
 use Rattle.mm_world.specs.{Page, same_key, private_key}
-use Rattle.mm_store.specs.{Copies, place_at, touch, copying, IsReady, PassesIn, StoreOf, changed, same_place, fetched}
+use Rattle.mm_store.specs.{Copies, place_at, touch, copying, IsReady, PassesIn, StoreOf, fetched}
+use Rattle.mm_move_rules.specs.{same_place}
+use Rattle.mm_move_rules.specs.{changed}
 use Rattle.mm_store.specs.Behind.{Behind}
 use Rattle.mm_object_tables.specs.{FitsTables, key_at, CommittedRow}
 use Rattle.std.proofs.Common.{Bool, cond, true, false, ◌+◌}

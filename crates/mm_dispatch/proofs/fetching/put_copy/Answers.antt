@@ -29,7 +29,7 @@ returns-clause-copied g c =
       passes = copied_then
           (record { place = place; need = copying c.args.row.key place; writes = true; start = (g.G.PageStore.behind c.args.g.now).life })
           (record { place = place; need = touch c.own_key_of.result; writes = true; start = (g.G.PageStore.behind c.copy.new.g).life })
-          refl refl c.own_key_of.ensures (IsReady s place (copying c.args.row.key place)) (IsReady m place (touch c.own_key_of.result)) ready g.G.PageStore.unpaged c.copy.result c.put.result _ _ _ _
+          refl refl refl c.own_key_of.ensures (IsReady s place (copying c.args.row.key place)) (IsReady m place (touch c.own_key_of.result)) ready g.G.PageStore.unpaged c.copy.result c.put.result _ _ _ _
           c.in_ok-copy.was c.in-Ok.is refl s m (g.G.PageStore.store c.put.new.g) (g.G.PageStore.behind c.args.g.now) (g.G.PageStore.behind c.copy.new.g) (g.G.PageStore.behind c.put.new.g) c.copy.ensures.copied.passes c.put.ensures.touched.passes;
       loans = search rules;
     }

@@ -4,7 +4,7 @@ use Rattle.mm_types.specs.{Why, Place, page_of, MachineOf}
 use Rattle.mm_world.specs.{Tables, pending}
 use Rattle.mm_store.specs.{Aim, Starts, place_at, need_for, waits_at_once, IsReady}
 use Rattle.mm_store.specs.declared.outcomes.Start.TheVariants as start
-use Rattle.mm_line_moves.specs.{is_write}
+use Rattle.mm_line_moves.specs.{is_write_attempt}
 use Rattle.mm_object_tables.specs.{key_bytes}
 use Rattle.mm_dispatch.specs.{aim_for, row_need, KeepsOver, PassesOver}
 use Rattle.mm_dispatch.proofs.{can-go-on, in_thread, turns-refused, turns-failed, turns-waiting, keeps_start}
@@ -47,7 +47,7 @@ returns-in-Pending-clause-turned g c = λ what is.
     c.start.ensures.contents c.start.ensures.store why c.if-failed.false
     ((λ i. pending (sym c.requires.can.keeps.fits.machine i).depth (sym (needs g after) i) (p.store x).report (p.store y).report) ∙ asked.pending why refl)
     (λ reads. asked.awaited (ap (λ (x : Why). start.Pending x) reads)) (λ never. let bad = asked.unpaged never in cc) c.start.ensures.loans
-    (subst (λ (a : Aim). PassesOver p (Starts a c.args.tid.0 (start.Pending why)) x y) (λ i. aim_for p (c.place_of.ensures i) (needs g after i) (is_write what) x) (asked.passes (is_write what)))
+    (subst (λ (a : Aim). PassesOver p (Starts a c.args.tid.0 (start.Pending why)) x y) (λ i. aim_for p (c.place_of.ensures i) (needs g after i) (is_write_attempt what) x) (asked.passes (is_write_attempt what)))
 
 pub returns-in-Ready-clause-ready : goal.returns-in-Ready-clause-ready
 returns-in-Ready-clause-ready g c =

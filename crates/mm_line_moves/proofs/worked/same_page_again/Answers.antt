@@ -7,5 +7,5 @@ pub returns-clause-never : goal.returns-clause-never
 returns-clause-never = λ c m. elim m.each.0 [
   | ByCopy e copied shows next ↦ (let bad : false ≡ true = copied in cc)
   | FromFull e none full old next ↦ (let bad : Some (frame 0) ≡ None = none in cc)
-  | InShortage short none victim ↦ (let bad : false ≡ true = short in cc)
+  | InShortage access short none victim ↦ (let bad : false ≡ true = short in cc)
 ]

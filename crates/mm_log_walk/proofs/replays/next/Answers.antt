@@ -1,6 +1,6 @@
 use Rattle.std.proofs.Common.{ℕ, ◌∙◌, ap, sym, subst}
 use Rattle.mm_replay.specs.Standing.{life}
-use Rattle.mm_log_walk.specs.{beside, is_broken, end_closing, Closing, Halts}
+use Rattle.mm_log_walk.specs.{beside, is_broken, end_closing, Closing, HaltsTelling}
 use Rattle.mm_log_walk.proofs.{begun_pour, begun_take, halts_stop, misfit_halts, tells_more}
 use Rattle.mm_log_walk.proofs.replays.next.Goals as goal
 
@@ -12,7 +12,7 @@ returns-in-Err-clause-told g c = λ left took rest s.
     let took' = g.O.Sink.taken a.out.now in
     let rest' = g.T.Teller.rest a.teller.now in
     let l = life a.life.now in
-    subst (λ (z : Closing). Halts (is_broken z) left left' took took' b rest z rest' l a.text.now.items) (sym (◌∙◌ {b = end_closing a.answers.now c.line.result c.in-Err.e} c.end_closing.ensures (ap (λ (n : ℕ). end_closing a.answers.now n c.in-Err.e) c.line.ensures)))
+    subst (λ (z : Closing). HaltsTelling (is_broken z) left left' took took' b rest z rest' l a.text.now.items) (sym (◌∙◌ {b = end_closing a.answers.now c.line.result c.in-Err.e} c.end_closing.ensures (ap (λ (n : ℕ). end_closing a.answers.now n c.in-Err.e) c.line.ensures)))
     (halts_stop left (g.S.Source.left a.source.now) left' took took' b a.reader.now rest rest' l a.text.now.items _
     s (c.in-Err.ensures.read left s.moves s.reading))
 

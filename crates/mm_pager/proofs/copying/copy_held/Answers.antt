@@ -1,7 +1,7 @@
 use Rattle.std.proofs.Common.{true, Some, ap, ◌∙◌}
 use Rattle.std.specs.Prelude.{is_some}
 use Rattle.mm_move_rules.specs.{key_of_place, record_at, is_read, touches}
-use Rattle.mm_pager.proofs.{held_given, copied_from, copied_to, some_of, other_frame, went_held, made_copied, may_copy, shows_held, search_left}
+use Rattle.mm_pager.proofs.{touches_touch, held_given, copied_from, copied_to, some_of, other_frame, went_held, made_copied, may_copy, shows_held, search_left}
 use Rattle.mm_pager.proofs.copying.copy_held.Goals as goal
 
 pub assign_copy-own-requires-clause-may : goal.assign_copy-own-requires-clause-may
@@ -26,7 +26,7 @@ pub copy-requires-clause-from_calm : goal.copy-requires-clause-from_calm
 copy-requires-clause-from_calm g c = ap is_read (c.put_copy.ensures.put.quiet c.args.f.0) ∙ (g.met.T.StateCalls.holds c.assign_copy-own.new.state).unread c.args.place c.args.f (held_given c.args.from c.args.f c.assign_copy-own.result c.args.place (g.T.StateCalls.shown c.args.state.now) (g.T.StateCalls.shown c.find.new.state) (g.T.StateCalls.shown c.assign_copy-own.new.state) c.requires.may c.in_ok-find.ensures.ok c.assign_copy-own.ensures.gave).valid
 
 pub returns-clause-went : goal.returns-clause-went
-returns-clause-went g c a p = went_held a c.args.place c.args.f (g.T.StateCalls.shown c.args.state.now) (g.T.StateCalls.shown c.find.new.state) (g.T.StateCalls.shown c.assign_copy-own.new.state) (g.T.StateCalls.shown c.put_copy.new.state) (g.T.StateCalls.shown c.copy.new.self) p c.in_ok-find.ensures.ok (c.assign_copy-own.ensures.gave.took a p.at p.copy (ap is_some ((search_left (Some c.args.f) true (g.T.StateCalls.shown c.args.state.now) (g.T.StateCalls.shown c.find.new.state) c.in_ok-find.ensures.ok).valid c.args.place p.valid))) (c.put_copy.ensures.put.went a p.at p.copy) c.copy.ensures.rest
+returns-clause-went g c a p = went_held a c.args.place c.args.f (g.T.StateCalls.shown c.args.state.now) (g.T.StateCalls.shown c.find.new.state) (g.T.StateCalls.shown c.assign_copy-own.new.state) (g.T.StateCalls.shown c.put_copy.new.state) (g.T.StateCalls.shown c.copy.new.self) (record { touch = touches_touch c.args.place.pid.0 _ c.requires.touch; access = c.requires.access }) p c.in_ok-find.ensures.ok (c.assign_copy-own.ensures.gave.took a p.at p.copy (ap is_some ((search_left (Some c.args.f) true (g.T.StateCalls.shown c.args.state.now) (g.T.StateCalls.shown c.find.new.state) c.in_ok-find.ensures.ok).valid c.args.place p.valid))) (c.put_copy.ensures.put.went a p.at p.copy) c.copy.ensures.rest
 
 pub returns-clause-copied : goal.returns-clause-copied
 returns-clause-copied g c = made_copied c.args.from c.args.place c.args.f c.assign_copy-own.result (g.T.StateCalls.shown c.args.state.now) (g.T.StateCalls.shown c.find.new.state) (g.T.StateCalls.shown c.assign_copy-own.new.state) (g.T.StateCalls.shown c.put_copy.new.state) (g.T.StateCalls.shown c.copy.new.self) (record {
@@ -35,6 +35,7 @@ returns-clause-copied g c = made_copied c.args.from c.args.place c.args.f c.assi
   gave = c.assign_copy-own.ensures.gave;
   holds = g.met.T.StateCalls.holds c.assign_copy-own.new.state;
   put = c.put_copy.ensures.put;
+  left = g.met.T.StateCalls.holds c.put_copy.new.state;
   bytes = c.copy.ensures.copied c.args.from (key_of_place c.args.place)
       (copied_from c.args.from c.args.f c.assign_copy-own.result c.args.place (g.T.StateCalls.shown c.args.state.now) (g.T.StateCalls.shown c.find.new.state) (g.T.StateCalls.shown c.assign_copy-own.new.state) (g.T.StateCalls.shown c.put_copy.new.state) (g.met.T.StateCalls.holds c.assign_copy-own.new.state) (g.met.T.StateCalls.holds c.put_copy.new.state) c.requires.may c.in_ok-find.ensures.ok c.assign_copy-own.ensures.gave c.put_copy.ensures.put)
       (copied_to c.assign_copy-own.result c.args.place (g.T.StateCalls.shown c.find.new.state) (g.T.StateCalls.shown c.assign_copy-own.new.state) (g.T.StateCalls.shown c.put_copy.new.state) (g.met.T.StateCalls.holds c.put_copy.new.state) c.assign_copy-own.ensures.gave c.put_copy.ensures.put);

@@ -36,10 +36,10 @@ end_read-requires g c =
     record { legal = (λ i. c.start_read-f.ensures.reading i && (is_io m.life.kind || access i)) ∙ or_true (is_io m.life.kind) }
 
 pub returns-then-end_read-clause-ok : goal.returns-then-end_read-clause-ok
-returns-then-end_read-clause-ok g c = brings_read c.args.key c.start_read-f.result (g.T.StateCalls.shown c.args.state.now) (g.T.StateCalls.shown c.find.new.state) (g.T.StateCalls.shown c.free_frame.new.state) (g.T.StateCalls.shown c.start_read-f.new.self) (g.T.StateCalls.shown c.end_read.new.self) c.requires.may.stored c.in_ok-find.ensures.ok (g.met.T.StateCalls.holds c.find.new.state) c.free_frame.ensures.frees c.start_read-f.ensures.frame (g.met.T.StateCalls.holds c.start_read-f.new.self) c.start_read-f.ensures.made c.requires.may.own c.start_read-f.ensures.rest c.end_read.ensures.rest c.if-end_read.ensures.made (c.if-end_read.ensures.quiet refl)
+returns-then-end_read-clause-ok g c = brings_read c.args.key c.start_read-f.result (g.T.StateCalls.shown c.args.state.now) (g.T.StateCalls.shown c.find.new.state) (g.T.StateCalls.shown c.free_frame.new.state) (g.T.StateCalls.shown c.start_read-f.new.self) (g.T.StateCalls.shown c.end_read.new.self) c.requires.may.access c.requires.may.stored c.in_ok-find.ensures.ok (g.met.T.StateCalls.holds c.find.new.state) c.free_frame.ensures.frees c.start_read-f.ensures.frame (g.met.T.StateCalls.holds c.start_read-f.new.self) c.start_read-f.ensures.made c.requires.may.own c.start_read-f.ensures.rest c.end_read.ensures.rest c.if-end_read.ensures.made (c.if-end_read.ensures.quiet refl)
 
 pub returns-else-end_read-clause-err : goal.returns-else-end_read-clause-err
-returns-else-end_read-clause-err g c = reading_fails c.args.key c.start_read-f.result (g.T.StateCalls.shown c.args.state.now) (g.T.StateCalls.shown c.find.new.state) (g.T.StateCalls.shown c.free_frame.new.state) (g.T.StateCalls.shown c.start_read-f.new.self) (g.T.StateCalls.shown c.end_read.new.self) c.requires.may.stored c.in_ok-find.ensures.ok (g.met.T.StateCalls.holds c.find.new.state) c.free_frame.ensures.frees c.start_read-f.ensures.frame (g.met.T.StateCalls.holds c.start_read-f.new.self) c.start_read-f.ensures.made c.requires.may.own c.start_read-f.ensures.rest c.end_read.ensures.rest c.if-end_read.ensures.made
+returns-else-end_read-clause-err g c = reading_fails c.args.key c.start_read-f.result (g.T.StateCalls.shown c.args.state.now) (g.T.StateCalls.shown c.find.new.state) (g.T.StateCalls.shown c.free_frame.new.state) (g.T.StateCalls.shown c.start_read-f.new.self) (g.T.StateCalls.shown c.end_read.new.self) c.requires.may.access c.requires.may.stored c.in_ok-find.ensures.ok (g.met.T.StateCalls.holds c.find.new.state) c.free_frame.ensures.frees c.start_read-f.ensures.frame (g.met.T.StateCalls.holds c.start_read-f.new.self) c.start_read-f.ensures.made c.requires.may.own c.start_read-f.ensures.rest c.end_read.ensures.rest c.if-end_read.ensures.made
 
 pub returns-in_err-find-clause-err : goal.returns-in_err-find-clause-err
-returns-in_err-find-clause-err g c = let lost = fails_to_find c.args.key c.in_err-find.field-0.0 (g.T.StateCalls.shown c.args.state.now) (g.T.StateCalls.shown c.find.new.state) (stored_unframed _ c.requires.may.stored) c.in_err-find.ensures.err in search (rules, lost)
+returns-in_err-find-clause-err g c = let lost = fails_to_find c.args.key c.in_err-find.field-0.0 (g.T.StateCalls.shown c.args.state.now) (g.T.StateCalls.shown c.find.new.state) c.requires.may.access (stored_unframed _ c.requires.may.stored) c.in_err-find.ensures.err in search (rules, lost)

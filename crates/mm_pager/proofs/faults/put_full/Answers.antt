@@ -6,7 +6,8 @@ use Rattle.mm_pager.proofs.{went_unmap_map, in_frame_then, some_page, placed_aft
 use Rattle.mm_pager.proofs.faults.put_full.Goals as goal
 
 pub returns-clause-went : goal.returns-clause-went
-returns-clause-went g c a e = went_unmap_map a c.args.f c.args.place (record { pid = c.args.place.pid; vpn = c.in-Some.vpn }) _ _ _ e refl c.requires.free c.requires.set.full (c.in-Some.ensures.first refl) c.unmap.ensures.made c.put_below.ensures.made
+returns-clause-went g c a p = went_unmap_map a c.args.key c.args.f c.args.place (record { pid = c.args.place.pid; vpn = c.in-Some.vpn }) _ _ _ (g.met.T.StateCalls.holds c.unmap.new.self)
+    (in_frame_then c.args.key c.args.f _ _ (record { pid = c.args.place.pid; vpn = c.in-Some.vpn }) c.requires.frame c.unmap.ensures.made.life c.unmap.ensures.requests) c.unmap.ensures.rest p refl c.requires.free c.requires.set.full (c.in-Some.ensures.first refl) c.unmap.ensures.made c.put_below.ensures.made
 
 pub put_below-requires-clause-frame : goal.put_below-requires-clause-frame
 put_below-requires-clause-frame g c = in_frame_then c.args.key c.args.f _ _ (record { pid = c.args.place.pid; vpn = c.in-Some.vpn }) c.requires.frame c.unmap.ensures.made.life c.unmap.ensures.requests

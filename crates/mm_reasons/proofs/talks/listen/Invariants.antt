@@ -1,5 +1,6 @@
 use Rattle.std.proofs.Common.{◌≡◌, ◌≤◌}
-use Rattle.mm_reasons.specs.{GoesWell, Listens, sink_seen}
+use Rattle.mm_reasons.specs.{GoesWell, Listens}
+use Rattle.mm_io.specs.{sink_seen}
 use Rattle.mm_reasons.proofs.talks.listen.Given as goal
 
 abbrev pub invariant-loop-turn : goal.invariant-loop-turn

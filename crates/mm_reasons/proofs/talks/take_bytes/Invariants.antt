@@ -1,5 +1,6 @@
 use Rattle.std.proofs.Common.{◌≤◌, take}
-use Rattle.mm_reasons.specs.{GoesWell, Hears, sink_seen}
+use Rattle.mm_reasons.specs.{GoesWell, Hears}
+use Rattle.mm_io.specs.{sink_seen}
 use Rattle.mm_reasons.proofs.talks.take_bytes.Given as goal
 
 abbrev pub invariant-loop-byte : goal.invariant-loop-byte

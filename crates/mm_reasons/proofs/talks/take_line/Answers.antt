@@ -1,6 +1,6 @@
 use Rattle.std.proofs.Common.{sym, subst, List}
 use Rattle.mm_types.specs.{Event}
-use Rattle.mm_reasons.specs.{HaltsLine}
+use Rattle.mm_reasons.specs.{HaltsAmid}
 use Rattle.mm_reasons.proofs.{heard_meant, said_explained, same_said}
 use Rattle.mm_reasons.proofs.talks.take_line.Goals as goal
 
@@ -19,6 +19,6 @@ returns-in-Ok-say_meaning-clause-heard g c =
 pub returns-in-Err-say_meaning-clause-said : goal.returns-in-Err-say_meaning-clause-said
 returns-in-Err-say_meaning-clause-said g c =
     let taken = g.O.Sink.taken in
-    subst (λ (es : List Event). HaltsLine c.in-Err-say_meaning.ending (taken c.args.out.now) (taken c.say_meaning.new.out) es)
+    subst (λ (es : List Event). HaltsAmid c.in-Err-say_meaning.ending (taken c.args.out.now) (taken c.say_meaning.new.out) es)
     (same_said c.args.explainer.now c.args.line.now c.names.result.now c.begun-begun.result c.in-Ok.meaning c.names.ensures c.begun-begun.ensures c.in-Ok.ensures.value)
     c.in-Err-say_meaning.ensures.said

@@ -1,7 +1,7 @@
 use Rattle.std.proofs.Common.{◌≡◌, ◌<◌, List, ℕ, take, refl, sym, ap, ◌∙◌, subst, arith}
 use Rattle.std.specs.Prelude.{Ok, Err}
 use Rattle.mm_script.specs.{IsLine as IsLineFor}
-use Rattle.mm_dispatch.specs.{is_machine}
+use Rattle.mm_script.specs.{is_machine}
 use Rattle.mm_run.specs.{begun_at, left_seen, output_seen, reading_of}
 use Rattle.mm_run.proofs.{begins_ends, begins_then, blamed_beside, blamed_open, came_bad, came_unopened, came_usage, comes_here, goes_ends}
 use Rattle.mm_run.proofs.machines.decide_all.Goals as goal

@@ -1,5 +1,5 @@
 use Rattle.std.proofs.Common.{sym, ap, ◌∙◌}
-use Rattle.mm_dispatch.specs.{is_machine}
+use Rattle.mm_script.specs.{is_machine}
 use Rattle.mm_run.proofs.readings.later_event.Goals as goal
 
 pub returns-then-is_machine-clause-refused : goal.returns-then-is_machine-clause-refused

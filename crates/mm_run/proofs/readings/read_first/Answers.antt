@@ -1,6 +1,6 @@
 use Rattle.std.proofs.Common.{◌≡◌, sym, ap, ◌∙◌}
 use Rattle.std.specs.Prelude.{Ok}
-use Rattle.mm_dispatch.specs.{is_machine}
+use Rattle.mm_script.specs.{is_machine}
 use Rattle.mm_run.proofs.readings.read_first.Goals as goal
 
 pub returns-else-is_machine-clause-refused : goal.returns-else-is_machine-clause-refused

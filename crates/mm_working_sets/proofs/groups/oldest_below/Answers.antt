@@ -1,5 +1,6 @@
 use Rattle.std.proofs.Common.{◌-◌, ℕ, ap, ◌∙◌, subst, arith}
-use Rattle.mm_working_sets.specs.{turned, NoneFrom, is_in}
+use Rattle.mm_bits.specs.{NoneFrom}
+use Rattle.mm_working_sets.specs.{turned, is_in}
 use Rattle.mm_working_sets.proofs.{turned_back, lowest_in_set, none_in_set, oldest_is, none_younger}
 use Rattle.mm_working_sets.proofs.groups.oldest_below.Goals as goal
 

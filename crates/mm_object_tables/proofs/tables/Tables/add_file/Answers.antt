@@ -5,7 +5,8 @@ use Rattle.mm_world.specs.{Tables}
 use Rattle.mm_object_tables.specs.{FitsTables, beside_file}
 use Rattle.mm_object_tables.proofs.{file_area, file_kept, file_now, file_fits, fits_wrote, area_free, same_kept, notes_nothing}
 use Rattle.mm_object_tables.proofs.SectionFits.{same_tables}
-use Rattle.mm_store.specs.{Makes, FileMade, WritesFile, wrote, StoreOf, changed, with_blocks, with_file}
+use Rattle.mm_store.specs.{Makes, FileMade, WritesFile, wrote, StoreOf, with_blocks, with_file}
+use Rattle.mm_move_rules.specs.{changed}
 use Rattle.mm_object_tables.proofs.tables.Tables.add_file.Given as given
 use Rattle.mm_object_tables.proofs.tables.Tables.add_file.Goals as goal
 use Rattle.mm_store.proofs.{served_none}

@@ -1,7 +1,8 @@
 use Rattle.std.proofs.Common.{Some, ◌∙◌, sym, ap, subst, is_some}
 use Rattle.mm_world.specs.{Tables, same_key, region_with, committed_at, private_key}
 use Rattle.mm_world.proofs.{committed_is}
-use Rattle.mm_store.specs.{changed, place_at}
+use Rattle.mm_store.specs.{place_at}
+use Rattle.mm_move_rules.specs.{changed}
 use Rattle.mm_object_tables.specs.{FitsTables, CanCopy, copied}
 use Rattle.mm_object_tables.proofs.{copy_stands, copy_charge, copy_moved, copy_marked, some_with, row_changed, row_kept, Held, held_by, lives_there}
 use Rattle.mm_object_tables.proofs.tables.Tables.copy_page.Goals as goal

@@ -19,7 +19,7 @@ pub returns-in-Some-clause-fault : goal.returns-in-Some-clause-fault
 returns-in-Some-clause-fault g c b = valid_ends c.args.key c.args.place _ _ (own_in c.args.self.now) (g.met.T.StateCalls.holds c.args.self.now.state) (ap is_some (sym c.valid.ensures ∙ c.in-Some.is)) c.requires.at.named c.read.ensures.rest b
 
 pub returns-in-Some-clause-passes : goal.returns-in-Some-clause-passes
-returns-in-Some-clause-passes g c = valid_passes false c.args.key c.args.place (paged_state c.args.self.now) _ (own_in c.args.self.now) _ (ap is_some (sym c.valid.ensures ∙ c.in-Some.is)) c.read.ensures.rest
+returns-in-Some-clause-passes g c = valid_passes false c.args.key c.args.place (paged_state c.args.self.now) _ (own_in c.args.self.now) _ (ap is_some (sym c.valid.ensures ∙ c.in-Some.is)) (λ w. cc) c.read.ensures.rest
 
 -- the page is brought
 
@@ -36,7 +36,7 @@ pub returns-in_default-clause-eased : goal.returns-in_default-clause-eased
 returns-in_default-clause-eased g c r = absurd (not_here _ (sym c.valid.ensures ∙ c.in-None.is) (c.args.self.now.kept.ready _ r))
 
 pub returns-in_default-clause-passes : goal.returns-in_default-clause-passes
-returns-in_default-clause-passes g c = went_passes false c.args.key c.args.place (paged_state c.args.self.now) (g.T.StateCalls.shown c.fault-done.new.state) _ (own_in c.args.self.now) _ _ _ (sym c.valid.ensures ∙ c.in-None.is) (λ r. c.args.self.now.kept.ready _ r) (of_went false c.args.key c.args.place (paged_state c.args.self.now) (g.T.StateCalls.shown c.fault-done.new.state) (sym c.valid.ensures ∙ c.in-None.is) (λ a p q b. c.in_default.ensures.ok.went a p b) c.in_default.ensures.ok.placed.same) (ap is_some c.in_default.ensures.ok.placed.valid) c.read-in-None.ensures.rest
+returns-in_default-clause-passes g c = went_passes false c.args.key c.args.place (paged_state c.args.self.now) (g.T.StateCalls.shown c.fault-done.new.state) _ (own_in c.args.self.now) _ _ _ (sym c.valid.ensures ∙ c.in-None.is) (λ r. c.args.self.now.kept.ready _ r) (of_went false c.args.key c.args.place (paged_state c.args.self.now) (g.T.StateCalls.shown c.fault-done.new.state) (sym c.valid.ensures ∙ c.in-None.is) (λ a p q b. c.in_default.ensures.ok.went a p b) c.in_default.ensures.ok.placed.same) (ap is_some c.in_default.ensures.ok.placed.valid) (λ w. cc) c.read-in-None.ensures.rest
 
 pub returns-in-Err-clause-served : goal.returns-in-Err-clause-served
 returns-in-Err-clause-served g c = served_in false c.args.key c.args.place (paged_state c.args.self.now) (g.T.StateCalls.shown c.fault-done.new.state) (own_in c.args.self.now) _ (of_stuck false c.in-Err.why c.args.key c.args.place (paged_state c.args.self.now) (g.T.StateCalls.shown c.fault-done.new.state) (sym c.valid.ensures ∙ c.in-None.is) c.in-Err.ensures.err)

@@ -28,4 +28,5 @@ returns-clause-wait g c = started_waits c.args.need c.args.key c.args.place c.st
 
 pub returns-clause-passes : goal.returns-clause-passes
 returns-clause-passes g c writes = started_passes writes c.args.need c.args.key c.args.place c.start_key-began.result c.args.tid.0 (paged_state c.args.self.now) (g.T.StateCalls.shown c.start_key-began.new.state) (g.T.StateCalls.shown c.set_wait.new.state) (own_in c.args.self.now) (own_of c.args.self.now.extended c.ready_for-self.result c.args.self.now.blocks_used)
+    (g.met.T.StateCalls.holds c.start_key-began.new.state) c.requires.dead
     c.start_key-began.ensures.begun c.set_wait.ensures.rest

@@ -4,7 +4,7 @@ use Rattle.mm_state_calls.specs.{StateOf}
 use Rattle.mm_store.specs.{Served, StoreOf}
 use Rattle.mm_store.proofs.{served_nothing}
 use Rattle.mm_pager.specs.{store, own_in, paged_state}
-use Rattle.mm_pager.proofs.{brought_written, wrote_eases, wrote_passes, wrote_ends, written_in, soils_names, named_here, wrote_named, went_passes}
+use Rattle.mm_pager.proofs.{brought_soiled, brought_written, wrote_eases, wrote_passes, wrote_ends, written_in, soils_names, named_here, wrote_named, went_passes}
 use Rattle.mm_pager.proofs.{stuck_passes, of_wrote, of_stuck, served_in, ok_store, err_store, ok_served, stored_same, kept_in, some_is, not_here}
 use Rattle.mm_pager.proofs.{faulted_ends, named_then, faulted_kept}
 use Rattle.mm_pager.proofs.calls.PagerPageStore.write.Goals as goal
@@ -19,7 +19,7 @@ returns-in-Some-clause-fault g c b = wrote_ends c.args.key c.in-Some.f c.args.pl
 pub returns-in-Some-clause-passes : goal.returns-in-Some-clause-passes
 returns-in-Some-clause-passes g c = wrote_passes c.args.key c.in-Some.f c.args.place _ _ _ (own_in c.args.self.now) _ (sym c.valid.ensures ∙ c.in-Some.is)
     ((g.met.T.StateCalls.holds c.args.self.now.state).named c.args.place c.in-Some.f (sym c.valid.ensures ∙ c.in-Some.is) ∙ named_here c.args.key c.in-Some.f c.args.place (paged_state c.args.self.now) (g.met.T.StateCalls.holds c.args.self.now.state) (sym c.valid.ensures ∙ c.in-Some.is) c.requires.at.named)
-    c.set_dirty.ensures.soils c.write.ensures.rest
+    c.set_dirty.ensures.soils c.set_dirty.ensures.soiled c.write.ensures.rest
 
 pub returns-in-Some-clause-served : goal.returns-in-Some-clause-served
 returns-in-Some-clause-served g c =
@@ -50,7 +50,8 @@ pub returns-in_default-clause-eased : goal.returns-in_default-clause-eased
 returns-in_default-clause-eased g c r = absurd (not_here _ (sym c.valid.ensures ∙ c.in-None.is) (c.args.self.now.kept.ready _ r))
 
 pub returns-in_default-clause-passes : goal.returns-in_default-clause-passes
-returns-in_default-clause-passes g c = went_passes true c.args.key c.args.place (paged_state c.args.self.now) (g.T.StateCalls.shown c.fault_to_write-done.new.state) _ (own_in c.args.self.now) _ _ _ (sym c.valid.ensures ∙ c.in-None.is) (λ r. c.args.self.now.kept.ready _ r) (of_wrote c.args.key c.args.place (paged_state c.args.self.now) (g.T.StateCalls.shown c.fault_to_write-done.new.state) (sym c.valid.ensures ∙ c.in-None.is) c.in_default.ensures.ok.went c.in_default.ensures.ok.same) (some_is _ c.in_default.ensures.ok.valid) c.write-in-None.ensures.rest
+returns-in_default-clause-passes g c = went_passes true c.args.key c.args.place (paged_state c.args.self.now) (g.T.StateCalls.shown c.fault_to_write-done.new.state) _ (own_in c.args.self.now) _ _ _ (sym c.valid.ensures ∙ c.in-None.is) (λ r. c.args.self.now.kept.ready _ r) (of_wrote c.args.key c.args.place (paged_state c.args.self.now) (g.T.StateCalls.shown c.fault_to_write-done.new.state) (sym c.valid.ensures ∙ c.in-None.is) c.in_default.ensures.ok.went c.in_default.ensures.ok.same) (some_is _ c.in_default.ensures.ok.valid)
+    (brought_soiled c.args.key c.args.place (paged_state c.args.self.now) (g.T.StateCalls.shown c.fault_to_write-done.new.state) (g.met.T.StateCalls.holds c.fault_to_write-done.new.state) c.in_default.ensures.ok.names c.in_default.ensures.ok.soiled) c.write-in-None.ensures.rest
 
 pub returns-in_default-clause-written : goal.returns-in_default-clause-written
 returns-in_default-clause-written g c = brought_written c.args.key c.args.off c.args.bytes.now (paged_state c.args.self.now) (g.T.StateCalls.shown c.fault_to_write-done.new.state) _ _ _ c.in_default.ensures.ok.same c.write-in-None.ensures.rest (c.write-in-None.ensures.bytes c.args.key (named_then c.args.key c.args.place _ _ c.in_default.ensures.ok.names))

@@ -2,7 +2,7 @@ use Rattle.std.proofs.Common.{◌≡◌, ◌+◌, ap, sym, ◌∙◌, subst, ari
 use Rattle.mm_types.specs.{IsMachine}
 use Rattle.mm_types.specs.declared.moves.LineKind.TheVariants as kind
 use Rattle.mm_slots.specs.{SlotsOf}
-use Rattle.mm_parts.specs.{joined_parts, more_slots}
+use Rattle.mm_parts.specs.{joined_parts, machine_grown}
 use Rattle.mm_parts.proofs.{step_to, grow_step, grow_machine, slots_small}
 use Rattle.mm_parts.proofs.parts.Parts.grow.Goals as goal
 use Rattle.mm_parts.proofs.parts.Parts.grow.Goals.{After-new-self}
@@ -18,7 +18,7 @@ overflow_add-slots c = omega (arith, (grow_machine (joined_parts c.args.self.now
 pub grow-requires-clause-small : goal.grow-requires-clause-small
 grow-requires-clause-small c = slots_small (joined_parts c.args.self.now) c.args.self.now.kept c.args.line c.args.n c.requires.legal
 
-more : (c : After-new-self) → c.new-self.result ≡ more_slots c.args.self.now.machine c.args.n
+more : (c : After-new-self) → c.new-self.result ≡ machine_grown c.args.self.now.machine c.args.n
 more c = c.new-self.ensures ∙ (λ i. record { frames = c.frames.ensures i; slots = c.slots.ensures i + c.args.n; depth = c.depth.ensures i; blocks = c.blocks-2.ensures i })
 
 pub invariant_of-self : goal.invariant_of-self

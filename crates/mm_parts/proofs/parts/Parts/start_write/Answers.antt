@@ -3,7 +3,7 @@ use Rattle.mm_types.specs.{Record, Backing, Stored}
 use Rattle.mm_types.specs.declared.moves.Move.TheVariants as move
 use Rattle.mm_move_rules.specs.{record_at, after_write, IsLegal}
 use Rattle.mm_pfn_database.specs.{FramesOf, can_go_to}
-use Rattle.mm_parts.specs.{life_in, joined_parts, shown_parts, parts_after, own_after, write_target, goes_to, lowest_free}
+use Rattle.mm_parts.specs.{life_in, joined_parts, shown_parts, parts_after, own_after, write_target, goes_to, lowest_free_slot}
 use Rattle.mm_frame_laws.specs.{backing_to}
 use Rattle.mm_parts.proofs.{Step, step_to, write_can, write_low, write_free, write_step, new_in}
 use Rattle.mm_parts.proofs.parts.Parts.start_write.Goals as goal
@@ -21,7 +21,7 @@ start_write-requires-clause-changed c = (write_can (joined_parts c.args.self.now
 pub start_write-requires-clause-target : goal.start_write-requires-clause-target
 start_write-requires-clause-target c =
     let s = c.args.self.now in
-    let to : c.take_target-to.result ≡ write_target (life_in (joined_parts s)) c.args.f = c.take_target-to.ensures.to ∙ ap (λ (r : Record). goes_to r.backing (lowest_free s.slots.free)) c.look.ensures in
+    let to : c.take_target-to.result ≡ write_target (life_in (joined_parts s)) c.args.f = c.take_target-to.ensures.to ∙ ap (λ (r : Record). goes_to r.backing (lowest_free_slot s.slots.free)) c.look.ensures in
     ap (λ (b : Backing). can_go_to b (record_at s.frames.table c.args.f.0)) (c.target.ensures ∙ ap backing_to to) ∙ (write_can (joined_parts s) s.kept c.args.f _ c.requires.legal).goes
 
 pub start_write-requires-clause-no_request : goal.start_write-requires-clause-no_request
@@ -34,14 +34,14 @@ pub begin_request-requires-clause-new : goal.begin_request-requires-clause-new
 begin_request-requires-clause-new c = λ other. new_in (joined_parts c.args.self.now) c.args.self.now.kept c.args.f.0 (write_can (joined_parts c.args.self.now) c.args.self.now.kept c.args.f _ c.requires.legal).quiet
 
 pub returns-clause-to : goal.returns-clause-to
-returns-clause-to c = c.take_target-to.ensures.to ∙ ap (λ (r : Record). goes_to r.backing (lowest_free c.args.self.now.slots.free)) c.look.ensures
+returns-clause-to c = c.take_target-to.ensures.to ∙ ap (λ (r : Record). goes_to r.backing (lowest_free_slot c.args.self.now.slots.free)) c.look.ensures
 
 made : (c : After-begin_request) → Step (record (joined_parts c.args.self.now) { table = c.start_write.new.self.table; bytes = c.start_write.new.self.bytes; free = c.take_target-to.new.slots.free; flight = c.begin_request.new.flight; own = c.begin_request.new.own })
     (record (parts_after (shown_parts c.args.self.now) (move.Write c.args.f c.take_target-to.result)) { own = own_after c.args.self.now.kind c.args.self.now.own c.args.f })
 made c =
     let s = c.args.self.now in
     let t = c.take_target-to.result in
-    let to : t ≡ write_target (life_in (joined_parts s)) c.args.f = c.take_target-to.ensures.to ∙ ap (λ (r : Record). goes_to r.backing (lowest_free s.slots.free)) c.look.ensures in
+    let to : t ≡ write_target (life_in (joined_parts s)) c.args.f = c.take_target-to.ensures.to ∙ ap (λ (r : Record). goes_to r.backing (lowest_free_slot s.slots.free)) c.look.ensures in
     let legal : IsLegal (move.Write c.args.f t) (life_in (joined_parts s)) = subst (λ (x : Stored). IsLegal (move.Write c.args.f x) (life_in (joined_parts s))) (sym to) c.requires.legal in
     let table : c.start_write.new.self.table ≡ after_write s.frames.table c.args.f.0 (backing_to t) = ap (λ (v : FramesOf). v.table) c.start_write.ensures ∙ ap (after_write s.frames.table c.args.f.0) c.target.ensures in
     let bytes : c.start_write.new.self.bytes ≡ s.frames.bytes = ap (λ (v : FramesOf). v.bytes) c.start_write.ensures in

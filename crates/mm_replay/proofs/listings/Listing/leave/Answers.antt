@@ -1,7 +1,7 @@
 use Rattle.std.proofs.Common.{◌∙◌, ap, subst, sym}
 use Rattle.mm_move_rules.specs.{is_idle}
 use Rattle.mm_page_lists.specs.{ListsOf}
-use Rattle.mm_replay.specs.{AreLists, Off, table_of}
+use Rattle.mm_replay.specs.{AreLists, Off, table_from_lists}
 use Rattle.mm_replay.proofs.{off_left, busy_off, table_left, table_stays}
 use Rattle.mm_replay.proofs.listings.Listing.leave.Goals as goal
 
@@ -14,7 +14,7 @@ returns-then-is_idle-clause-off c =
 pub returns-then-is_idle-clause-table : goal.returns-then-is_idle-clause-table
 returns-then-is_idle-clause-table c =
     let s = c.args.self.now in
-    ap (λ (v : ListsOf). table_of s.records.items v) c.unlink.ensures.closed ∙ table_left s.records.items s.lists c.args.f c.requires.kept c.requires.owned
+    ap (λ (v : ListsOf). table_from_lists s.records.items v) c.unlink.ensures.closed ∙ table_left s.records.items s.lists c.args.f c.requires.kept c.requires.owned
 
 pub returns-else-is_idle-clause-off : goal.returns-else-is_idle-clause-off
 returns-else-is_idle-clause-off c =

@@ -1,6 +1,6 @@
 use Rattle.std.proofs.Common.{arith, ◌≡◌, ◌<◌, ℕ, List, [], ◌∷◌, ◌++◌, length, map, false, sym, ap, ◌∙◌, subst}
 use Rattle.std.proofs.lemmas.List.{length-map, map_push}
-use Rattle.mm_requests.specs.{FlightOf, IsKept, is_in, frame_number}
+use Rattle.mm_requests.specs.{FlightOf, IsKept, is_requested, frame_number}
 use Rattle.mm_requests.proofs.{kept_begun}
 use Rattle.mm_requests.proofs.flights.Flight.begin.Goals as goal
 
@@ -9,7 +9,7 @@ invariant_of-self c =
     let f = c.args.f.0 in
     let frames : List ℕ = map frame_number c.self.inside.frames.items in
     let waits = c.self.inside.waits.items in
-    let new : is_in f frames ≡ false = ap (λ (v : FlightOf). is_in f v.frames) c.self.view_is ∙ c.requires.new in
+    let new : is_requested f frames ≡ false = ap (λ (v : FlightOf). is_requested f v.frames) c.self.view_is ∙ c.requires.new in
     let fewer : length frames < c.self.inside.depth = subst (λ (v : FlightOf). length v.frames < v.depth) (sym c.self.view_is) c.requires.fewer in
     let more : map frame_number c.push.new.self.items ≡ frames ++ f ∷ [] =
     ap (map frame_number) c.in-Ok.ensures.items ∙ map_push frame_number c.self.inside.frames.items c.args.f in

@@ -1,5 +1,7 @@
 use Rattle.std.proofs.Common.{◌+◌, true, None, sym, ap, ◌∙◌, arith}
-use Rattle.mm_store.specs.{changed, same_place, place_at}
+use Rattle.mm_store.specs.{place_at}
+use Rattle.mm_move_rules.specs.{same_place}
+use Rattle.mm_move_rules.specs.{changed}
 use Rattle.mm_unpaged.specs.{is_bound_in, names_in}
 use Rattle.mm_unpaged.proofs.{changed_none, changed_more, next_unchanged, held}
 use Rattle.mm_unpaged.proofs.places.Places.bind_all.Goals as goal

@@ -1,5 +1,7 @@
 use Rattle.std.proofs.Common.{◌+◌, false, None, ap, ◌∙◌, arith}
-use Rattle.mm_store.specs.{changed, same_place, place_at}
+use Rattle.mm_store.specs.{place_at}
+use Rattle.mm_move_rules.specs.{same_place}
+use Rattle.mm_move_rules.specs.{changed}
 use Rattle.mm_unpaged.specs.{is_bound_in, names_in}
 use Rattle.mm_unpaged.proofs.{changed_more}
 use Rattle.mm_unpaged.proofs.places.Places.unbind_all.Goals as goal

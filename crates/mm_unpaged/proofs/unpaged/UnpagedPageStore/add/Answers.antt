@@ -1,6 +1,6 @@
 use Rattle.std.proofs.Common.{◌∙◌, Some, refl, ap, arith}
 use Rattle.mm_world.specs.{same_key}
-use Rattle.mm_store.specs.{changed}
+use Rattle.mm_move_rules.specs.{changed}
 use Rattle.mm_unpaged.specs.{contents_in, one_if_live}
 use Rattle.mm_unpaged.proofs.{at_place, in_area, fits_then, files_fit_areas, home_near, same_parts}
 use Rattle.mm_unpaged.proofs.unpaged.UnpagedPageStore.add.Goals as goal

@@ -1,6 +1,7 @@
 use Rattle.std.proofs.Common.{◌≡◌, ◌∙◌, Some, refl, sym, ap, arith}
 use Rattle.mm_world.specs.{same_key}
-use Rattle.mm_store.specs.{changed, same_place}
+use Rattle.mm_move_rules.specs.{same_place}
+use Rattle.mm_move_rules.specs.{changed}
 use Rattle.mm_store.proofs.{served_nothing}
 use Rattle.mm_unpaged.specs.{contents_in}
 use Rattle.mm_unpaged.proofs.{at_place, copied_from, copied_to, copy_ends, fits_then, same_parts}

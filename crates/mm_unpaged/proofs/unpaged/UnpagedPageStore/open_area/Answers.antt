@@ -1,6 +1,6 @@
 use Rattle.std.proofs.Common.{◌+◌, ◌∙◌, ◌==◌, None, Some, replicate, refl, ap}
 use Rattle.std.proofs.lemmas.List.{length-replicate}
-use Rattle.mm_store.specs.{changed}
+use Rattle.mm_move_rules.specs.{changed}
 use Rattle.mm_unpaged.specs.declared.areas.AreaPages.TheVariants.{Paged}
 use Rattle.mm_unpaged.specs.{area_in, pages_at, pages_in, sizes_of, unpaged_report}
 use Rattle.mm_unpaged.proofs.{files_fit_areas, fits_areas, on_ok, opened, opened_or_not, same_parts, sizes_changed}

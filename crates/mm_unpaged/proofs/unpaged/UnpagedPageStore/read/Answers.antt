@@ -2,7 +2,8 @@ use Rattle.std.proofs.Common.{Some, Option, sym, subst}
 use Rattle.std.specs.Prelude.{IsSome}
 use Rattle.mm_types.specs.{Key}
 use Rattle.mm_world.specs.{Page}
-use Rattle.mm_store.specs.{changed, same_place}
+use Rattle.mm_move_rules.specs.{same_place}
+use Rattle.mm_move_rules.specs.{changed}
 use Rattle.mm_unpaged.specs.{names_in, contents_in, store_in}
 use Rattle.mm_unpaged.proofs.{fetched_named, served_named, touch_ends}
 use Rattle.mm_unpaged.proofs.unpaged.UnpagedPageStore.read.Goals as goal

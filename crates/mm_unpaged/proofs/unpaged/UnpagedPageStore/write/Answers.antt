@@ -1,5 +1,7 @@
 use Rattle.std.proofs.Common.{Some, ap, ◌∙◌}
-use Rattle.mm_store.specs.{StoreOf, changed, same_place}
+use Rattle.mm_store.specs.{StoreOf}
+use Rattle.mm_move_rules.specs.{same_place}
+use Rattle.mm_move_rules.specs.{changed}
 use Rattle.mm_unpaged.specs.{names_in, contents_in, store_in}
 use Rattle.mm_unpaged.proofs.{eased_named, fetched_named, named_after, served_named, touch_ends, written_live}
 use Rattle.mm_unpaged.proofs.unpaged.UnpagedPageStore.write.Goals as goal
