@@ -28,6 +28,12 @@ from typing import Iterator, NamedTuple, Optional, Sequence, Union
 
 TOP = Path(__file__).resolve().parent.parent
 PROGRAMS = ("mmsim", "mmlog", "mmshow", "mmnames")
+DEBIAN = "/usr/bin/python3"
+# what the package for Python imports, and the package of Debian that has it
+LIBRARIES = {
+    **{"numpy": "python3-numpy", "pandas": "python3-pandas", "matplotlib": "python3-matplotlib"},
+    **{"dask": "python3-dask", "distributed": "python3-distributed", "tqdm": "python3-tqdm"},
+}
 # Those and the one that checks alone run.
 ALL_PROGRAMS = (*PROGRAMS, "mmunpaged")
 # How many complaints a check prints; the others are only counted.
@@ -151,6 +157,21 @@ def apt(packages: Sequence[str], seconds: Optional[float] = None) -> None:
                     env={**os.environ, "DEBIAN_FRONTEND": "noninteractive"},
                     timeout=seconds,
                 )
+
+
+def has(name: str) -> bool:
+    """Whether Debian's Python has a library."""
+    words = [DEBIAN, "-c", f"import importlib.util as u, sys; sys.exit(not u.find_spec({name!r}))"]
+    return subprocess.run(words).returncode == 0
+
+
+def missing(packages: dict[str, str]) -> list[str]:
+    """The libraries of Debian's Python, by their packages, that are neither there nor to be had."""
+    lacking = [name for name in packages if not has(name)]
+    if lacking:
+        apt([packages[name] for name in lacking])
+        lacking = [name for name in lacking if not has(name)]
+    return lacking
 
 
 def debian(command: str, package: str) -> bool:

@@ -36,7 +36,7 @@ import tempfile
 from pathlib import Path
 from typing import Iterator, NamedTuple, Optional
 
-from common import TOP, Check, begin, text
+from common import LIBRARIES, TOP, Check, begin, missing, text
 
 # Commands that prove: the gate, and a program's first run, which proves all that it is built on.
 PROVES = re.compile(r"\.ci/run\b|\brt (run|ci|check)\b|checks/all\.py")
@@ -493,6 +493,8 @@ def main() -> int:
     if not check.words.quick and not shutil.which("rt"):
         check.leave_out("commands that call the kit, as there is no `rt` on the path")
         check.words.quick = True
+    lacking = missing(LIBRARIES)
+    check.holds("packages", not lacking, f"{', '.join(lacking)} cannot be installed here")
     with tempfile.TemporaryDirectory(prefix="documents-") as folder:
         copy = Copy(check, folder)
         compare_blocks(check, copy)

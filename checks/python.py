@@ -30,17 +30,15 @@ from pathlib import Path
 from typing import Any, Optional
 
 sys.path.insert(0, os.path.dirname(os.path.abspath(__file__)))
-from common import apt  # noqa: E402
+from common import DEBIAN, LIBRARIES, missing  # noqa: E402
 
 TOP = Path(__file__).resolve().parent.parent
 PYTHON = TOP / "python"
-DEBIAN = "/usr/bin/python3"
 NOTEBOOK = TOP / "examples" / "paging.ipynb"
 PROGRAMS = ("mmsim", "mmlog", "mmshow", "mmnames")
 # what is imported, and the package of Debian that has it
 PACKAGES = {
-    **{"numpy": "python3-numpy", "pandas": "python3-pandas", "matplotlib": "python3-matplotlib"},
-    **{"dask": "python3-dask", "distributed": "python3-distributed", "tqdm": "python3-tqdm"},
+    **LIBRARIES,
     **{"pytest": "python3-pytest", "hypothesis": "python3-hypothesis"},
     **{"black": "black", "mypy": "mypy"},
 }
@@ -95,21 +93,6 @@ class Check:
         count = f"{self.differences} differences" if self.differences else "no differences"
         print(f"python: {self.compared} compared, {count}", flush=True)
         return 1 if self.differences else 0
-
-
-def has(name: str) -> bool:
-    """Whether Debian's Python has a library."""
-    words = [DEBIAN, "-c", f"import importlib.util as u, sys; sys.exit(not u.find_spec({name!r}))"]
-    return subprocess.run(words).returncode == 0
-
-
-def missing(packages: dict[str, str]) -> list[str]:
-    """The libraries that are not there and cannot be installed."""
-    lacking = [name for name in packages if not has(name)]
-    if lacking:
-        apt([packages[name] for name in lacking])
-        lacking = [name for name in lacking if not has(name)]
-    return lacking
 
 
 # ---------------------------------------------------------------- the steps
