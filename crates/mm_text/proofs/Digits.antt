@@ -1,8 +1,10 @@
 -- Digits that are written from the last on, into the places of a list from its end on.
-use Rattle.std.proofs.Common.{◌≡◌, ℕ, zero, suc, ◌+◌, ◌-◌, ◌/◌, ◌%◌, ◌≤◌, ◌<◌, Bool, cond, List, [], ◌∷◌, ◌++◌, length, drop, take, set, get_or, refl, sym, ap, ◌∙◌, subst, arith, add-one, append_assoc, length-set}
+use Rattle.std.proofs.Common.{◌≡◌, ℕ, zero, suc, ◌+◌, ◌-◌, ◌/◌, ◌%◌, ◌≤◌, ◌<◌, Bool, cond, List, [], ◌∷◌, ◌++◌, length, drop, take, set, get_or, refl, sym, ap, ◌∙◌, subst, arith, add-one, append_assoc, append-nil, length-set, eq-zero-or-pos, ◌^◌, inl, inr}
 use Rattle.std.specs.Prelude.{nat_lt}
+use Rattle.std.specs.Fmt.{decimal as printed}
 use Rattle.std.proofs.lemmas.List.{drop-set, drop_more, take_all, take_more_set, length-drop}
 use Rattle.std.proofs.lemmas.Bool.{lt-ltb, le-ltb}
+use Rattle.std.proofs.lemmas.Fmt.{decimal_digit, decimal_step}
 use Rattle.mm_types.specs.{Text, glyph, decimal, decimal_onto, hex_onto, byte_pairs}
 use Rattle.mm_text.specs.{digits_onto}
 
@@ -45,6 +47,16 @@ hex_more k n xs some within =
     subst (λ (i : ℕ). hex_onto i n (drop i xs) ≡ hex_onto (k - 1) (n / 16) (drop (k - 1) (set xs (k - 1) (glyph (n % 16))))) e
     (ap (λ r. hex_onto (k - 1) (n / 16) r) (drop-set_suc (k - 1) xs (glyph (n % 16)) (omega arith)))
 
+glyph_of : (d : ℕ) → d < 10 → 48 + d ≡ glyph d
+glyph_of d low = sym (ap (λ (b : Bool). cond b (48 + d) (55 + d)) (lt-ltb d 10 low))
+
+digit_glyph : (n : ℕ) → n < 10 → 48 + n ≡ glyph (n % 10)
+digit_glyph n low = ap (λ d. 48 + d) (omega (arith, low)) ∙ glyph_of (n % 10) (omega arith)
+
+several : (count n : ℕ) → 10 ≤ n → n < 10 ^ suc count → 0 < count
+several zero n high few = omega (arith, high, few)
+several (suc count) n high few = omega arith
+
 -- decimal digits are digits in base 10
 pub decimal_is : (count n : ℕ) (rest : Text) → decimal_onto count n rest ≡ digits_onto 10 count n rest
 unfolding decimal_onto digits_onto
@@ -79,7 +91,24 @@ pairs_filled room xs end i h low fits =
 
 pub ruleset digits = (digits_last, digits_more, digits_none, hex_more, pairs_more, pairs_filled)
 
--- what stands in the twenty places from the first digit on
-pub decimal_tail : (n from : ℕ) (xs : Text) → length xs ≡ 20 → digits_onto 10 20 n [] ≡ drop from xs → take (20 - from) (drop from xs) ≡ decimal n
-decimal_tail n from xs len e =
-    take_all (20 - from) (drop from xs) (omega (arith, length-drop from xs)) ∙ sym e ∙ sym (decimal_is 20 n [])
+-- the decimal digits of a number are those that `{}` prints
+printed_onto : (count n : ℕ) (rest : Text) → 0 < count → n < 10 ^ count → n < 2 ^ 64 → printed n ++ rest ≡ decimal_onto count n rest
+unfolding decimal_onto
+printed_onto zero n rest some few small = absurd (omega (arith, some))
+printed_onto (suc count) n rest some few small =
+    let last : Text = glyph (n % 10) ∷ rest in
+    elim (eq-zero-or-pos (n / 10)) [
+      | inl z ↦
+          let low : n < 10 = omega (arith, z) in
+          ap (λ ds. ds ++ rest) (decimal_digit n low) ∙ ap (λ d. d ∷ rest) (digit_glyph n low)
+          ∙ sym (ap (λ b. either b last (decimal_onto count (n / 10) last)) (lt-ltb n 10 low))
+      | inr more ↦
+          let high : 10 ≤ n = omega (arith, more) in
+          ap (λ ds. ds ++ rest) (decimal_step n high small) ∙ append_assoc (printed (n / 10)) ((48 + n % 10) ∷ []) rest
+          ∙ ap (λ d. printed (n / 10) ++ d ∷ rest) (glyph_of (n % 10) (omega arith))
+          ∙ printed_onto count (n / 10) last (several count n high few) (omega (arith, few)) (omega (arith, small))
+          ∙ sym (ap (λ b. either b last (decimal_onto count (n / 10) last)) (le-ltb n 10 high))
+    ]
+
+pub printed_decimal : (n : ℕ) → n < 2 ^ 64 → printed n ≡ decimal n
+printed_decimal n small = sym (append-nil (printed n)) ∙ printed_onto 20 n [] (omega arith) (omega (arith, small)) small

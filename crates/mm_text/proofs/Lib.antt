@@ -8,7 +8,7 @@ pub mod Made
 pub mod Spaces
 pub mod DigitCounts
 pub mod Lines
-pub use Digits.{decimal_is, decimal_tail, digits_more}
+pub use Digits.{decimal_is, digits_more, printed_decimal}
 pub use Values.{scan, sum_fits, sum_grows}
 pub use Pairs.{behind, pairs_more}
 pub use Spelled.{IsPlain, bytes_of-byte_pairs, length-byte_pairs, length-decimal-32, length-digits}

@@ -5,6 +5,7 @@ ghost use Rattle.mm_types.specs.{glyph, decimal, hex_onto, hex8, byte_pairs};
 ghost use Rattle.mm_text.specs.{digits_onto, hex_short};
 
 use crate::LineBuf;
+use itoa::Buffer;
 
 /// The digits below 16 as bytes, with upper-case letters from ten on.
 static GLYPHS: [u8; 16] = [
@@ -37,24 +38,22 @@ pub fn fill_pairs(bytes: &[u8], room: &mut [u8; 128]) -> usize
     end
 }
 
-/// Writes a number's digits at the end of `digits`, without leading zeros, and answers where they
-/// begin.
+/// Writes a number's hexadecimal digits at the end of `digits`, without leading zeros, and answers
+/// where they begin.
 #[inline]
-fn fill_short(base: u64, n: u64, digits: &mut [u8]) -> usize
-    requires low { 2 ≤ base }
-    requires high { base ≤ 16 }
-    ensures digits { digits_onto base (length digits.old) n [] ≡ drop result digits.new }
+fn fill_short(n: u32, digits: &mut [u8]) -> usize
+    ensures digits { digits_onto 16 (length digits.old) n [] ≡ drop result digits.new }
     ensures within { result ≤ length digits.old }
 {
     let mut at = digits.len();
     let mut rest = n;
     while at > 0 {
         at -= 1;
-        digits[at] = glyph((rest % base) as u8);
-        if rest < base {
+        digits[at] = glyph((rest % 16) as u8);
+        if rest < 16 {
             return at;
         }
-        rest /= base;
+        rest /= 16;
     }
     at
 }
@@ -77,9 +76,8 @@ pub fn put_decimal(out: &mut LineBuf, n: u64)
     requires { length out.old + length (decimal n) ≤ 256 }
     ensures { out.new ≡ out.old ++ decimal n }
 {
-    let mut digits = [0u8; 20];
-    let from = fill_short(10, n, &mut digits);
-    out.push_slice(&digits[from..]);
+    let mut digits = Buffer::new();
+    out.push_slice(digits.format(n).as_bytes());
 }
 
 /// Writes `0x` and a number's hexadecimal digits in upper case, without leading zeros, at the end
@@ -89,7 +87,7 @@ pub fn put_hex_short(out: &mut LineBuf, n: u32)
     ensures { out.new ≡ out.old ++ hex_short n }
 {
     let mut digits = [0u8; 8];
-    let from = fill_short(16, u64::from(n), &mut digits);
+    let from = fill_short(n, &mut digits);
     out.push_slice(b"0x");
     out.push_slice(&digits[from..]);
 }
