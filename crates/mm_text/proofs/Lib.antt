@@ -6,6 +6,7 @@ pub mod Spelled
 pub mod Runs
 pub mod Made
 pub mod Spaces
+pub mod Texts
 pub mod DigitCounts
 pub mod Lines
 pub use Digits.{decimal_is, decimal_tail, digits_more}
