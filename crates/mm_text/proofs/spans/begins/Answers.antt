@@ -1,5 +1,5 @@
 use Rattle.std.proofs.Common.{arith}
-use Rattle.mm_text.proofs.Texts.{begun_more, begun_all}
+use Rattle.mm_text.proofs.{begun_more, begun_all}
 use Rattle.mm_text.proofs.spans.begins.Goals as goal
 
 pub loop-i-preserved : goal.loop-i-preserved
