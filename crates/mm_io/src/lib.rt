@@ -13,6 +13,7 @@ mod looks;
 mod mem_sink;
 mod mem_source;
 mod programs;
+mod waiting;
 mod write;
 
 ghost use Rattle.std.specs.Prelude.{◌≡◌, ◌≤◌, ◌+◌, List, ℕ, Option, OnOk};

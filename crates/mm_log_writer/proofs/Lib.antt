@@ -1,3 +1,4 @@
+mod Counted
 mod Fronts
 pub mod Growing
 mod Table

@@ -2,6 +2,7 @@
 //! sink.
 #![tactic(auto)]
 
+mod at_lines;
 mod recorders;
 mod spellings;
 

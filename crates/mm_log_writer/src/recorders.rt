@@ -1,8 +1,9 @@
-ghost use Rattle.std.specs.Prelude.{◌≡◌, false};
+ghost use Rattle.std.specs.Prelude.{◌≡◌, ◌<◌, false, length};
 ghost use Rattle.mm_types.specs.{Loans, Loan};
 ghost use Rattle.mm_move_rules.specs.{Log, Grew, Flushed, spelling_of_move, IsMove};
-ghost use Rattle.mm_log_writer.specs.Recorded.{FailsExactly};
+ghost use Rattle.mm_log_writer.specs.Recorded.{FailsExactly, log_of};
 
+use crate::at_lines::AtLine;
 use crate::spellings::{EMPTY, Line, put_line};
 use mm_io::{Sink, write_all};
 use mm_types::{Failed, Move};
@@ -35,12 +36,36 @@ pub trait Moves {
         ensures { result ≡ (log self.now).failed };
 }
 
+/// Writes a line, unless a call failed before; tells whether one has failed.
+#[inline(always)]
+#[tactic(auto, using(crate::proofs::Growing::growing))]
+fn write_line<K: Sink>(sink: &mut K, failed: bool, line: &[u8]) -> bool
+    requires some { 0 < length line.now }
+    ensures grew { Grew
+        (log_of (K.taken sink.old) (K.given sink.old) failed (K.faults sink.old))
+        (log_of (K.taken sink.new) (K.given sink.new) result (K.faults sink.new)) line.now }
+    ensures exact { FailsExactly
+        (log_of (K.taken sink.old) (K.given sink.old) failed (K.faults sink.old))
+        (log_of (K.taken sink.new) (K.given sink.new) result (K.faults sink.new)) line.now }
+    ensures loans { K.loans sink.new ≡ K.loans sink.old }
+{
+    if failed {
+        return true;
+    }
+    match write_all(sink, line) {
+        Ok(()) => false,
+        Err(Failed) => true,
+    }
+}
+
 /// Writes the moves that it is told to a sink that was lent to it. It keeps none of them.
 #[derive(Drop)]
 pub struct Recorder<'a, K: Sink> {
     sink: &'a mut K,
     /// Room for the line of a move. It is kept, since a new one would be cleared for each move.
     line: Line,
+    /// That of a move `at`, which is written for most lines.
+    at: AtLine,
     failed: bool,
 }
 
@@ -54,6 +79,7 @@ impl<'a, K: Sink> Recorder<'a, K> {
         Recorder {
             sink,
             line: EMPTY,
+            at: AtLine::new(),
             failed: false,
         }
     }
@@ -66,6 +92,7 @@ impl<'a, K: Sink> Recorder<'a, K> {
         let Recorder {
             sink,
             line: _,
+            at: _,
             failed: _,
         } = self;
         sink
@@ -83,13 +110,15 @@ impl<'a, K: Sink> Moves for Recorder<'a, K> {
     ghost loans = { λ r. Loan r.sink.ghost_name };
 
     #[inline(always)] // where it is called the move is known, and then nothing asks which it is
-    #[tactic(auto, using(crate::proofs::Growing::growing))]
     fn note(&mut self, m: Move) {
-        let end = put_line(&mut self.line, &m);
-        if !self.failed {
-            match write_all(self.sink, &self.line[..end]) {
-                Ok(()) => {}
-                Err(Failed) => self.failed = true,
+        match m {
+            Move::At(n, kind) => {
+                self.at.spell(n, kind);
+                self.failed = write_line(self.sink, self.failed, self.at.text());
+            }
+            _ => {
+                let end = put_line(&mut self.line, &m);
+                self.failed = write_line(self.sink, self.failed, &self.line[..end]);
             }
         }
     }

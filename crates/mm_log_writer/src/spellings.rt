@@ -1,4 +1,4 @@
-ghost use Rattle.std.specs.Prelude.{◌≡◌, ◌≤◌, ◌<◌, ◌+◌, ◌^◌, ◌∷◌, ◌++◌, [], List, ℕ, length, take};
+ghost use Rattle.std.specs.Prelude.{◌≡◌, ◌≤◌, ◌<◌, ◌+◌, ◌^◌, ◌∷◌, ◌++◌, [], List, ℕ, length, take, codes};
 ghost use Rattle.std.specs.Prelude.{◌/◌, ◌%◌, slice_index};
 ghost use Rattle.mm_types.specs.{glyph, decimal};
 ghost use Rattle.mm_move_rules.specs.{numbered, place_onto, key_onto, kind_onto, move_onto, spelling_of_move, IsKey, IsPlace, IsKind, IsMove};
@@ -172,7 +172,7 @@ fn put_number(out: &mut Line, at: usize, n: u32) -> usize
 
 /// Writes some bytes. They are known where this is called, so that they come to a store or two.
 #[inline(always)]
-fn put_bytes(out: &mut Line, at: usize, bytes: &[u8]) -> usize
+pub(crate) fn put_bytes(out: &mut Line, at: usize, bytes: &[u8]) -> usize
     requires { at + length bytes.now ≤ 80 }
     ensures text { take result out.new ≡ take at out.old ++ bytes.now }
     ensures end { result ≡ at + length bytes.now }
@@ -186,7 +186,7 @@ fn put_bytes(out: &mut Line, at: usize, bytes: &[u8]) -> usize
 /// A word and a number, of at most 10 digits.
 #[inline(always)]
 #[tactic(auto, using(mm_text::proofs::Lines::steps))]
-fn put_numbered(out: &mut Line, at: usize, word: &[u8], n: u32) -> usize
+pub(crate) fn put_numbered(out: &mut Line, at: usize, word: &[u8], n: u32) -> usize
     requires { at + length word.now + 11 ≤ 80 }
     ensures put { Puts out.old at out.new result (length word.now + 10) (numbered word.now n) }
 {
@@ -339,10 +339,24 @@ fn put_move(out: &mut Line, m: &Move) -> usize
 #[inline(always)]
 pub(crate) fn put_line(out: &mut Line, m: &Move) -> usize
     ensures line { take result out.new ≡ spelling_of_move m.now }
+    ensures some { 0 < result }
     ensures few { result ≤ 66 }
     ensures in_range { IsMove m.now }
 {
     let end = put_move(out, m);
+    put_byte(out, end, b'\n')
+}
+
+/// Writes what stands behind the number of a line `at`, which ends at 13.
+#[inline(always)]
+pub(crate) fn put_tail(out: &mut Line, kind: LineKind) -> usize
+    ensures text { take result out.new
+        ≡ take 13 out.old ++ (codes " " ++ kind_onto kind (0x0A ∷ [])) }
+    ensures few { result ≤ 66 }
+    ensures in_range { IsKind kind }
+{
+    let next = put_words(out, 13, b" ");
+    let end = put_kind(out, next, kind);
     put_byte(out, end, b'\n')
 }
 

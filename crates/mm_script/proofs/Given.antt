@@ -1,7 +1,11 @@
 -- The value of the next word, or its fault.
 use Rattle.std.proofs.Common.{◌≡◌, ℕ, ◌-◌, [], Option, Some, None, Result, Ok, Err, refl, sym, ap, ◌∙◌, subst, arith}
+use Rattle.std.specs.Prelude.{codes}
 use Rattle.std.specs.Option.{ok_or}
 use Rattle.mm_types.specs.{Text}
+use Rattle.mm_script.specs.declared.keywords.Keyword.TheVariants as keyword
+use Rattle.mm_script.specs.{keyword_of}
+use Rattle.mm_script.proofs.Found.{found_word}
 use Rattle.mm_script.specs.{LineFault, fault_at, Rest, rest_behind, word_read, first_read, word_as, Gives, word_from, TakesWord}
 
 -- what is left after the word
@@ -33,4 +37,13 @@ missing reads old f l e = ap (first_read reads old) l ∙ ap (λ (g : LineFault)
 pub given_value : {A : Type 0} (reads : Text → Option A) (old new : Rest) (text : Text) (x : A) → TakesWord old text new → Some x ≡ reads text → word_as reads old ≡ Ok (x, new)
 given_value reads old new text x t e = given_or reads old new text (Some x) (fault_at new.last (new.number - 1)) (Ok x) t e refl refl
 
+-- the commonest two keywords
+pub keyword_read : (old new : Rest) → TakesWord old (codes "read") new → word_as keyword_of old ≡ Ok (keyword.Read, new)
+keyword_read old new t = given_value keyword_of old new (codes "read") keyword.Read t (found_word (codes "read") keyword.Read refl)
+
+pub keyword_write : (old new : Rest) → TakesWord old (codes "write") new → word_as keyword_of old ≡ Ok (keyword.Write, new)
+keyword_write old new t = given_value keyword_of old new (codes "write") keyword.Write t (found_word (codes "write") keyword.Write refl)
+
 pub ruleset given = (given_or, missing)
+
+pub ruleset keywords = (given_or, missing, keyword_read, keyword_write)

@@ -16,7 +16,7 @@ pub use Joined.{not_returned, return_taken}
 pub use Found.{found_sorted, found_word}
 pub use Ranges.{line_fits}
 pub use Laws.{parse_ok, put}
-pub use Given.{given_or}
+pub use Given.{given_or, keyword_read, keyword_write}
 pub use Narrowed.{number_high, number_low, number_taken}
 pub use Numbers.{made_told, one_more}
 pub use Again.{printed_again}

@@ -1,9 +1,10 @@
-ghost use Rattle.std.specs.Prelude.{◌≡◌, ◌+◌, ◌-◌, ◌^◌, ◌<◌, ◌≤◌, length, OnOk, IfOk};
+ghost use Rattle.std.specs.Prelude.{◌≡◌, ◌+◌, ◌-◌, ◌^◌, ◌<◌, ◌≤◌, true, false, length, OnOk, IfOk};
+ghost use Rattle.mm_text.specs.{is_unspaced};
 ghost use Rattle.mm_script.specs.Shape.{read, Number, AnyNumber, PidNumber, TidNumber, ByteWord, NameWord, NameOrDash, DeviceWord, DirectionWord};
 ghost use Rattle.mm_script.specs.Place.{fault_at};
 ghost use Rattle.mm_script.specs.Keywords.{keyword_of};
 ghost use Rattle.mm_script.specs.Reading.{word_as, ended_words, whole_line, Gives};
-ghost use Rattle.mm_script.specs.Cursor.{TakesNextWord};
+ghost use Rattle.mm_script.specs.Cursor.{TakesNextWord, TakesWord};
 ghost use Rattle.mm_script.specs.Numbers.{numbers_for, PutsNumbers};
 
 use crate::keywords::Keyword;
@@ -260,14 +261,38 @@ impl<'a> Fields<'a> {
         values::direction(word).ok_or(self.fault())
     }
 
-    /// The first word of a line.
+    /// Takes the next word where it is this one, which has no space in it.
     #[inline(always)]
-    #[tactic(auto, using(crate::proofs::Given::given))]
+    fn takes(&mut self, text: &[u8]) -> bool
+        requires few { self.old.number < MOST_WORDS }
+        requires word { is_unspaced text.now ≡ true }
+        ensures taken { result ≡ true → TakesWord self.old text.now self.new }
+        ensures left { result ≡ false → self.new ≡ self.old }
+    {
+        match self.words.next_is(text) {
+            Some(from) => {
+                self.number += 1;
+                self.last = from;
+                true
+            }
+            None => false,
+        }
+    }
+
+    /// The first word of a line. The commonest two are tested first.
+    #[inline(always)]
+    #[tactic(auto, using(crate::proofs::Given::keywords))]
     pub fn keyword(&mut self) -> Result<Keyword, LineFault>
         requires few { self.old.number < MOST_WORDS }
         ensures value { Gives result self.new (word_as keyword_of self.old) }
         ensures counts { self.new.number ≡ self.old.number + 1 }
     {
+        if self.takes(b"read") {
+            return Ok(Keyword::Read);
+        }
+        if self.takes(b"write") {
+            return Ok(Keyword::Write);
+        }
         let word = self.next()?;
         Keyword::of(word).ok_or(self.fault())
     }

@@ -55,7 +55,7 @@ passed_more base line start to sum c high order within e low p =
       word = λ from h. p.word from h ∙ word_longer line from to (omega arith) within other;
     }
 
-ended_at : (line : Text) (from to : ℕ) → from ≤ to → EndsWord line to → words_from from (slice_range line from to) (drop to line) ≡ record { from = from; text = slice_range line from to } ∷ rest_from (to + 1) line
+pub ended_at : (line : Text) (from to : ℕ) → from ≤ to → EndsWord line to → words_from from (slice_range line from to) (drop to line) ≡ record { from = from; text = slice_range line from to } ∷ rest_from (to + 1) line
 ended_at line from to order e = elim e [
   | inl over ↦ word_over line from to order over
   | inr here ↦ word_ended line from to order here.0 here.1

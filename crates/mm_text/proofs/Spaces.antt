@@ -19,7 +19,7 @@ placed from w (t ∷ ts) = record { from = from; text = w } ∷ placed (from + l
 abbrev pick : Bool → List Word → List Word → List Word
 pick b ended longer = cond b ended longer
 
-words_from-append : (from : ℕ) (text t rest : Text) → HasNoSpace t → words_from from text (t ++ rest) ≡ words_from from (text ++ t) rest
+pub words_from-append : (from : ℕ) (text t rest : Text) → HasNoSpace t → words_from from text (t ++ rest) ≡ words_from from (text ++ t) rest
 words_from-append from text [] rest h = ap (λ s. words_from from s rest) (sym (append-nil text))
 words_from-append from text (c ∷ cs) rest h =
     ap (λ b. pick b (record { from = from; text = text } ∷ words_from (from + length text + 1) [] (cs ++ rest)) (words_from from (text ++ c ∷ []) (cs ++ rest))) (ne_eqb c 0x20 h.0)

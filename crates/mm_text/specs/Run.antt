@@ -1,5 +1,5 @@
 -- A number that is a whole word, by its place: a tool of proof.
-use Rattle.std.specs.Prelude.{◌≡◌, ◌⊎◌, ℕ, ◌+◌, ◌≤◌, ◌<◌, true}
+use Rattle.std.specs.Prelude.{◌≡◌, ◌⊎◌, ℕ, ◌+◌, ◌≤◌, ◌<◌, ◌==◌, Bool, true, false, if◌then◌else◌}
 use Rattle.std.specs.Prelude.{[], ◌∷◌, length, drop, slice_range, Some}
 use Rattle.std.proofs.Common.{get_or}
 use Rattle.mm_types.specs.{Text}
@@ -40,3 +40,20 @@ pub record TakesNumber (old new : WordsOf) (from value : ℕ) : Type 0 where
   pub within : from ≤ length old.line
   pub left : old.left ≡ record { from = from; text = text } ∷ new.left
   pub reads : number_of text ≡ Some value
+
+-- no byte is a space
+abbrev pub is_unspaced : Text → Bool
+is_unspaced [] = true
+is_unspaced (c ∷ cs) = if c == 0x20 then false else is_unspaced cs
+
+-- the word that begins at `from` ends at `to`, and is this text
+pub record IsWordAt (line : Text) (from to : ℕ) (text : Text) : Type 0 where
+  pub within : to ≤ length line
+  pub word : words_from from [] (drop from line)
+      ≡ record { from = from; text = text } ∷ rest_from (to + 1) line
+
+-- the first word of what was left was taken, and is this text
+pub record TakesText (old new : WordsOf) (from : ℕ) (text : Text) : Type 0 where
+  pub line : new.line ≡ old.line
+  pub within : from ≤ length old.line
+  pub left : old.left ≡ record { from = from; text = text } ∷ new.left

@@ -3,6 +3,7 @@ ghost use Rattle.std.specs.Prelude.{slice_range, MatchOption, IfNone, IfSome};
 ghost use Rattle.mm_text.specs.Word.{WordsOf, words_of, words_from, rest_from};
 ghost use Rattle.mm_text.specs.Place.{word_at};
 ghost use Rattle.mm_text.specs.Run.{IsRun, IsNumberAt, EndsWord, BeginsHex, TakesNumber};
+ghost use Rattle.mm_text.specs.Run.{is_unspaced, IsWordAt, TakesText};
 
 use crate::fields::digit;
 use std::marker::Model;
@@ -81,6 +82,24 @@ impl<'a> Words<'a> {
         })
     }
 
+    /// Takes the next word where it is this one, which has no space in it, and tells where it
+    /// begins. `None` leaves it.
+    #[inline(always)]
+    #[tactic(auto, using(crate::proofs::Texts::texts))]
+    pub fn next_is(&mut self, text: &[u8]) -> Option<u32>
+        requires word { is_unspaced text.now ≡ true }
+        ensures some { IfSome result (λ from. TakesText self.old self.new from text.now) }
+        ensures none { IfNone result (self.new ≡ self.old) }
+    {
+        let from = self.at as usize;
+        if from > self.line.len() {
+            return None;
+        }
+        let to = text_at(self.line, from, text)?;
+        self.at = to as u32 + 1;
+        Some(from as u32)
+    }
+
     /// The place of the next word; `None` where no word is left.
     #[inline(always)]
     #[tactic(auto, using(crate::proofs::Splits::splits))]
@@ -146,6 +165,38 @@ fn ends_word(line: &[u8], at: usize) -> bool
     ensures { result ≡ true → EndsWord line.now at }
 {
     at >= line.len() || line[at] == b' '
+}
+
+/// Whether a text stands at a place.
+#[inline(always)]
+#[tactic(auto, using(crate::proofs::Texts::begun))]
+fn begins(line: &[u8], from: usize, text: &[u8]) -> bool
+    requires { from + length text.now ≤ length line.now }
+    ensures { result ≡ true → slice_range line.now from (from + length text.now) ≡ text.now }
+{
+    for i in 0..text.len() {
+        if line[from + i] != text[i] {
+            return false;
+        }
+    }
+    true
+}
+
+/// Where the word ends that begins at a place, if it is this text.
+#[inline(always)]
+#[tactic(auto, using(crate::proofs::Texts::texts))]
+fn text_at(line: &[u8], from: usize, text: &[u8]) -> Option<usize>
+    requires within { from ≤ length line.now }
+    requires word { is_unspaced text.now ≡ true }
+    ensures { IfSome result (λ to. IsWordAt line.now from to text.now) }
+{
+    if line.len() - from < text.len() {
+        return None;
+    }
+    if !begins(line, from, text) || !ends_word(line, from + text.len()) {
+        return None;
+    }
+    Some(from + text.len())
 }
 
 /// Whether `0x` stands at a place.
