@@ -1,6 +1,7 @@
 pub mod Worded
 pub mod Paged
 pub mod Following
+pub mod Rowed
 pub mod Summed
 pub mod Exactness
 pub mod Reached

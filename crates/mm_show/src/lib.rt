@@ -6,6 +6,7 @@ mod forms;
 mod keys;
 mod observed;
 mod pages;
+mod rows;
 mod sums;
 mod top;
 mod words;
