@@ -1,5 +1,5 @@
 -- Rows that are written one after another.
-use Rattle.std.proofs.Common.{◌≡◌, ℕ, ◌+◌, ◌≤◌, List, [], ◌∷◌, ◌++◌, length, drop, Option, Some, None, sym, ap, ◌∙◌, inl, inr, append_assoc}
+use Rattle.std.proofs.Common.{◌≡◌, ℕ, ◌+◌, ◌≤◌, List, [], ◌++◌, length, drop, Some, None, sym, ap, ◌∙◌, arith, append_assoc}
 use Rattle.std.specs.Prelude.{flat_map, slice_get}
 use Rattle.std.proofs.lemmas.List.{append-nil, drop_all}
 use Rattle.mm_types.specs.{Text}
@@ -18,3 +18,6 @@ module _ (row : Text → Text) (out : Text) (lines : List Text) (i : ℕ) where
   rows_ended over = ap (λ (ls : List Text). out ++ flat_map row ls) (drop_all i lines over) ∙ append-nil out
 
 pub ruleset rowed = (rows_more, rows_none, rows_ended)
+
+pub nothing_behind : (place : ℕ) (bytes : Text) → length bytes ≤ place → [] ≡ drop (place + 1) bytes
+nothing_behind place bytes over = sym (drop_all (place + 1) bytes (omega (arith, over)))

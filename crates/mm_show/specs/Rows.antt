@@ -5,7 +5,7 @@ use Rattle.std.specs.Prelude.{◌==◌, bytes_eq, if◌then◌else◌, List, [],
 use Rattle.std.specs.Prelude.{flat_map, Option, Some, None}
 use Rattle.std.specs.List.{list_all}
 use Rattle.mm_types.specs.{Text}
-use Rattle.mm_log_walk.specs.{is_hex_digit, shown_line}
+use Rattle.mm_log_walk.specs.{is_hex_digit, is_plain_byte, shown_line}
 use Rattle.mm_replay.specs.{is_digit}
 use Rattle.mm_reports.specs.{before, after_byte}
 
@@ -100,3 +100,9 @@ answer_rows answers = flat_map answer_row answers
 abbrev pub answers_file : Option (List Text) → Text
 answers_file None = []
 answers_file (Some answers) = answer_rows answers
+
+-- ---- lines that a row tells whole
+
+-- all that is shown of it is as it stands
+abbrev pub is_shown : Text → Bool
+is_shown line = nat_le (length line) 256 && list_all is_plain_byte line

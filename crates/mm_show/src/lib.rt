@@ -13,4 +13,5 @@ mod words;
 
 pub use forms::{Files, Form};
 pub use pages::PageTexts;
+pub use rows::rows_are_read_again;
 pub use top::{first_file, run_show};

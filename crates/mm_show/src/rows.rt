@@ -1,29 +1,32 @@
-ghost use Rattle.std.specs.Prelude.{◌≡◌, ◌+◌, ◌*◌, ◌<◌, ◌∷◌, ◌++◌, [], OnOk};
+ghost use Rattle.std.specs.Prelude.{◌≡◌, ◌+◌, ◌*◌, ◌<◌, ◌∷◌, ◌++◌, [], drop, OnOk, true};
 ghost use Rattle.std.specs.List.{list_all};
+ghost use Rattle.mm_types.specs.{Text};
 ghost use Rattle.mm_log_walk.specs.{is_hex_digit, shown_line};
 ghost use Rattle.mm_replay.specs.{is_digit};
 ghost use Rattle.mm_reports.specs.{before, after_byte};
-ghost use Rattle.mm_show.specs.Rows.{digit_value, pair_text, digits_text, are_digits, are_divided, is_access};
-ghost use Rattle.mm_show.specs.Rows.{letter_of, access_row, is_capital, plain_row, script_row, script_rows};
-ghost use Rattle.mm_show.specs.Rows.{script_file, told_row, answer_row, answer_rows, answers_file};
+ghost use Rattle.mm_show.specs.{digit_value, pair_text, digits_text, are_digits, are_divided, is_access, letter_of, access_row, is_capital};
+ghost use Rattle.mm_show.specs.{plain_row, script_row, script_rows, script_file, told_row, answer_row, answer_rows, answers_file, is_shown};
 
 use mm_log_walk::{Lines, put_line};
-use mm_reports::{after_byte, before};
+use mm_reports::before;
 use mm_script::is_text;
 use mm_types::NoMemory;
 
+#[inline(always)]
 fn is_digit(byte: u8) -> bool
     ensures { result ≡ is_digit byte }
 {
     byte >= b'0' && byte <= b'9'
 }
 
+#[inline(always)]
 fn is_hex_digit(byte: u8) -> bool
     ensures { result ≡ is_hex_digit byte }
 {
     is_digit(byte) || (byte >= b'A' && byte <= b'F')
 }
 
+#[inline(always)]
 fn digit_value(byte: u8) -> u8
     ensures value { result ≡ digit_value byte }
     ensures few { result < 16 }
@@ -41,6 +44,7 @@ fn digit_value(byte: u8) -> u8
     }
 }
 
+#[inline(always)]
 fn put_byte(byte: u8, text: &mut Vec<u8>) -> Result<(), NoMemory>
     ensures { OnOk result (text.new.items ≡ text.old.items ++ byte ∷ []) }
 {
@@ -49,6 +53,7 @@ fn put_byte(byte: u8, text: &mut Vec<u8>) -> Result<(), NoMemory>
 }
 
 /// Writes a number in two bytes.
+#[inline(always)]
 fn put_pair(n: u32, text: &mut Vec<u8>) -> Result<(), NoMemory>
     requires { n < 4356 }
     ensures { OnOk result (text.new.items ≡ text.old.items ++ pair_text n) }
@@ -58,6 +63,7 @@ fn put_pair(n: u32, text: &mut Vec<u8>) -> Result<(), NoMemory>
     Ok(())
 }
 
+#[inline(always)]
 fn put_two(a: u8, b: u8, text: &mut Vec<u8>) -> Result<(), NoMemory>
     ensures { OnOk result (text.new.items ≡ text.old.items
         ++ pair_text (4096 + 16 * digit_value a + digit_value b)) }
@@ -67,6 +73,7 @@ fn put_two(a: u8, b: u8, text: &mut Vec<u8>) -> Result<(), NoMemory>
     put_pair(4096 + 16 * high + low, text)
 }
 
+#[inline(always)]
 fn put_three(a: u8, b: u8, c: u8, text: &mut Vec<u8>) -> Result<(), NoMemory>
     ensures { OnOk result (text.new.items ≡ text.old.items
         ++ pair_text (256 * digit_value a + 16 * digit_value b + digit_value c)) }
@@ -110,14 +117,27 @@ fn are_divided(bytes: &[u8]) -> bool
     ensures { result ≡ are_divided bytes.now }
 {
     let front = before(b' ', bytes);
-    front.len() < bytes.len() && are_digits(front) && are_digits(after_byte(b' ', bytes))
+    front.len() < bytes.len() && are_digits(front) && are_digits(behind(front.len(), bytes))
+}
+
+/// What stands behind a byte at this place.
+#[inline(always)]
+#[tactic(auto, using(crate::proofs::Rowed::nothing_behind))]
+fn behind(place: usize, bytes: &[u8]) -> &[u8]
+    ensures { result.now ≡ drop (place + 1) bytes.now }
+{
+    if place < bytes.len() {
+        &bytes[place + 1..]
+    } else {
+        &[]
+    }
 }
 
 /// Whether this stands behind the word of an access that is written in few bytes.
-fn is_access(behind: &[u8]) -> bool
-    ensures { result ≡ is_access behind.now }
+fn is_access(rest: &[u8]) -> bool
+    ensures { result ≡ is_access rest.now }
 {
-    match behind {
+    match rest {
         [pid, space, zero, x, digits @ ..] => {
             is_digit(*pid) && *space == b' ' && *zero == b'0' && *x == b'x' && are_divided(digits)
         }
@@ -125,6 +145,7 @@ fn is_access(behind: &[u8]) -> bool
     }
 }
 
+#[inline(always)]
 fn letter_of(is_write: bool, pid: u8) -> u8
     ensures { result ≡ letter_of is_write pid }
 {
@@ -138,16 +159,17 @@ fn put_divided(digits: &[u8], text: &mut Vec<u8>) -> Result<(), NoMemory>
     ensures { OnOk result (text.new.items ≡ text.old.items
         ++ (digits_text (before 32 digits.now) ++ digits_text (after_byte 32 digits.now))) }
 {
-    put_digits(before(b' ', digits), text)?;
-    put_digits(after_byte(b' ', digits), text)
+    let front = before(b' ', digits);
+    put_digits(front, text)?;
+    put_digits(behind(front.len(), digits), text)
 }
 
 /// Writes an access: a letter for its word and its process, the address, and what is behind it.
 #[tactic(auto, using(mm_text::proofs::DigitCounts::joined))]
-fn put_access(is_write: bool, behind: &[u8], text: &mut Vec<u8>) -> Result<(), NoMemory>
-    ensures { OnOk result (text.new.items ≡ text.old.items ++ access_row is_write behind.now) }
+fn put_access(is_write: bool, rest: &[u8], text: &mut Vec<u8>) -> Result<(), NoMemory>
+    ensures { OnOk result (text.new.items ≡ text.old.items ++ access_row is_write rest.now) }
 {
-    match behind {
+    match rest {
         [pid, _, _, _, digits @ ..] => {
             text.push(letter_of(is_write, *pid))?;
             put_divided(digits, text)
@@ -188,11 +210,11 @@ fn put_script_row(line: &[u8], text: &mut Vec<u8>) -> Result<(), NoMemory>
     ensures { OnOk result (text.new.items ≡ text.old.items ++ script_row line.now) }
 {
     let word = before(b' ', line);
-    let behind = after_byte(b' ', line);
-    if is_text(word, b"read") && is_access(behind) {
-        put_access(false, behind, text)
-    } else if is_text(word, b"write") && is_access(behind) {
-        put_access(true, behind, text)
+    let rest = behind(word.len(), line);
+    if is_text(word, b"read") && is_access(rest) {
+        put_access(false, rest, text)
+    } else if is_text(word, b"write") && is_access(rest) {
+        put_access(true, rest, text)
     } else {
         put_plain_row(line, text)
     }
@@ -266,3 +288,12 @@ pub(crate) fn put_answers_file(answers: &Option<Lines>, text: &mut Vec<u8>) -> R
         None => Ok(()),
     }
 }
+
+/// From the rows of a script and of its answers the lines can be read again, whatever stands behind
+/// a row: of those that have at most 256 bytes, each of which stands for itself.
+pub fn rows_are_read_again()
+    ensures script { (a b x y : Text) → is_shown a ≡ true → is_shown b ≡ true
+        → script_row a ++ x ≡ script_row b ++ y → (a ≡ b) × (x ≡ y) }
+    ensures answers { (a b x y : Text) → is_shown a ≡ true → is_shown b ≡ true
+        → answer_row a ++ x ≡ answer_row b ++ y → (a ≡ b) × (x ≡ y) }
+{}

@@ -1,7 +1,7 @@
-use Rattle.std.proofs.Common.{◌+◌, ◌++◌, List, drop, ap, ◌∙◌}
+use Rattle.std.proofs.Common.{◌+◌, ◌++◌, drop, ap, ◌∙◌}
 use Rattle.mm_types.specs.{Text}
 use Rattle.mm_show.specs.{script_row, script_rows}
-use Rattle.mm_show.proofs.Rowed.{rows_more}
+use Rattle.mm_show.proofs.{rows_more}
 use Rattle.mm_show.proofs.rows.put_script_rows.Goals as goal
 
 pub loop-i-preserved : goal.loop-i-preserved
