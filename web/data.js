@@ -114,6 +114,50 @@ class Reader {
   numbers(count) {
     return Array.from({ length: count }, () => this.number());
   }
+  // up to the end of a line
+  row() {
+    const from = this.at;
+    this.at = this.text.indexOf('\n', from) + 1 || this.text.length + 1;
+    return this.text.slice(from, this.at - 1);
+  }
+  // Hexadecimal digits: two bytes from 61 on are a number to the base 66, of three digits where it
+  // is below 4096, else of the last two. The last one is a byte from 39 on; `!`: none is left.
+  digits() {
+    for (let digits = ''; ; ) {
+      const byte = this.text.charCodeAt(this.at++);
+      if (byte < 61) return byte < 39 ? digits : digits + spelledDigits(byte - 39, 1);
+      const pair = (byte - 61) * 66 + this.text.charCodeAt(this.at++) - 61;
+      if (!(pair < 4096)) return digits + spelledDigits(pair - 4096, 2);
+      digits += spelledDigits(pair, 3);
+    }
+  }
+}
+const spelledDigits = (value, count) => value.toString(16).toUpperCase().padStart(count, '0');
+
+// An access begins with a letter, A to J for a read of the processes 0 to 9 and K to T for a write.
+// Any other line stands as it is; behind a tab where it begins with such a letter.
+function readScriptRow(reader) {
+  const first = reader.letter();
+  if (first === '\t') return reader.row();
+  const place = first.charCodeAt(0) - 65;
+  if (place >= 0 && place < 20) {
+    const word = place < 10 ? 'read' : 'write';
+    return `${word} ${place % 10} 0x${reader.digits()} ${reader.digits()}`;
+  }
+  reader.at--;
+  return reader.row();
+}
+// The digits of `ok DIGITS`; what stands behind any other `ok`; behind a tab any other answer.
+function readAnswerRow(reader) {
+  const first = reader.letter();
+  if (first === '\t') return reader.row();
+  reader.at--;
+  return first === ' ' || first === '\n' ? 'ok' + reader.row() : 'ok ' + reader.digits();
+}
+function readRows(text, readRow) {
+  const [rows, reader] = [[], new Reader(text)];
+  while (reader.hasMore) rows.push(readRow(reader));
+  return rows;
 }
 
 function readLog(reader, classes, script, answers) {
@@ -164,12 +208,10 @@ function readLog(reader, classes, script, answers) {
 }
 
 const textOf = (name) => element('data-' + name).textContent;
-const rowsOf = (name) => textOf(name).split('\n').slice(0, -1);
-// An answer that begins with `ok` is written without it, any other behind a tab.
-const readAnswer = (text) => (text.startsWith('\t') ? text.slice(1) : 'ok' + text);
 
 function readData() {
-  const [script, answers] = [rowsOf('script'), rowsOf('answers').map(readAnswer)];
+  const script = readRows(textOf('script'), readScriptRow);
+  const answers = readRows(textOf('answers'), readAnswerRow);
   const log = readLog(new Reader(textOf('moves')), readClasses(textOf('classes')), script, answers);
   const count = log.lines.length - 1;
   const name = textOf('name').trim().split(/[/\\]/).pop();

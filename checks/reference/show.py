@@ -975,9 +975,43 @@ def safe(line):
     return line[:256].translate(keep)
 
 
-def answer_data(answer):
-    """An answer in the page's data: without `ok` where it begins so, any other behind a tab."""
-    return safe(answer)[2:] if answer.startswith("ok") else "\t" + safe(answer)
+def pair(value):
+    """A number below 4356 in two bytes."""
+    return chr(61 + value // 66) + chr(61 + value % 66)
+
+
+def packed_digits(digits):
+    """Hexadecimal digits, three in two bytes; behind them two, one, or `!` for none."""
+    whole = len(digits) // 3 * 3
+    text = "".join(pair(int(digits[at : at + 3], 16)) for at in range(0, whole, 3))
+    left = digits[whole:]
+    if not left:
+        return text + "!"
+    return text + (chr(39 + int(left, 16)) if len(left) == 1 else pair(4096 + int(left, 16)))
+
+
+ACCESS = re.compile("(read|write) ([0-9]) 0x([0-9A-F]{0,256}) ([0-9A-F]{0,256})")
+TOLD = re.compile("ok ([0-9A-F]{0,256})")
+
+
+def script_row(line):
+    """A line of the script: an access packed, any other behind a tab if it begins as one does."""
+    access = ACCESS.fullmatch(line)
+    if not access:
+        return ("\t" if "A" <= line[:1] <= "T" else "") + safe(line) + "\n"
+    word, pid, address, behind = access.groups()
+    letter = chr(ord("A" if word == "read" else "K") + int(pid))
+    return letter + packed_digits(address) + packed_digits(behind)
+
+
+def answer_row(answer):
+    """An answer: the digits of `ok DIGITS`, what stands behind `ok`, any other behind a tab."""
+    told = TOLD.fullmatch(answer)
+    if told:
+        return packed_digits(told[1])
+    if answer == "ok" or answer.startswith("ok "):
+        return answer[2:3] + safe(answer[3:]) + "\n"
+    return "\t" + safe(answer) + "\n"
 
 
 def do_html(data, page, names):
@@ -987,8 +1021,8 @@ def do_html(data, page, names):
     islands = {
         "CLASSES": class_table(),
         "MOVES": island(data, script, answers),
-        "SCRIPT": "".join(safe(x) + "\n" for x in script or []),
-        "ANSWERS": "".join(answer_data(x) + "\n" for x in answers or []),
+        "SCRIPT": "".join(script_row(x) for x in script or []),
+        "ANSWERS": "".join(answer_row(x) for x in answers or []),
         "NAME": safe(names[0]) + "\n" if names else "",
         "OBSERVATIONS": packed,
     }

@@ -13,6 +13,8 @@ from typing import Iterator
 from .inputs import heavy_paging
 from .runs import Bench, debian
 
+# So many lines of case e make 400,000 moves, without those that begin a line.
+LINES = 143_400
 # Chooses ten lines, one after another, and tells how long that took.
 CHOOSE = """
 <script>
@@ -29,7 +31,7 @@ document.documentElement.dataset.choosing = Math.round((performance.now() - bega
 
 def page(bench: Bench) -> Iterator[str]:
     """The page of a log of case e on 4,096 page frames."""
-    source, lines = bench.run("page", heavy_paging(bench.seed, 100_000 // bench.part, 4096))
+    source, lines = bench.run("page", heavy_paging(bench.seed, LINES // bench.part, 4096))
     count = bench.moves_of("page")
     shown = Path(f"{source}.html")
     words = [bench.programs["mmshow"], "html", source, f"{source}.out"]
@@ -38,7 +40,8 @@ def page(bench: Bench) -> Iterator[str]:
     text = shown.read_bytes()
     told = ", ".join(f"{name} {size:,}" for name, size in parts(text).items())
     rest = len(text) - sum(parts(text).values())
-    yield f"{lines:,} lines, {count:,} moves: a page of {len(text):,} bytes ({told}, the rest {rest:,})"
+    yield f"{lines:,} lines, {count - lines:,} moves but `at`: a page of {len(text):,} bytes"
+    yield f"({told}, the rest {rest:,})"
     shown.write_bytes(text.replace(b"</body>", CHOOSE.encode() + b"</body>"))
     chromium = browser()
     ready, choosing = zip(*[opened(chromium, str(shown)) for _ in range(5)])

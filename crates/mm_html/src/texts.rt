@@ -367,6 +367,43 @@ if (digit < 32) return value;\n\
 numbers(count) {\n\
 return Array.from({ length: count }, () => this.number());\n\
 }\n\
+row() {\n\
+const from = this.at;\n\
+this.at = this.text.indexOf('\\n', from) + 1 || this.text.length + 1;\n\
+return this.text.slice(from, this.at - 1);\n\
+}\n\
+digits() {\n\
+for (let digits = ''; ; ) {\n\
+const byte = this.text.charCodeAt(this.at++);\n\
+if (byte < 61) return byte < 39 ? digits : digits + spelledDigits(byte - 39, 1);\n\
+const pair = (byte - 61) * 66 + this.text.charCodeAt(this.at++) - 61;\n\
+if (!(pair < 4096)) return digits + spelledDigits(pair - 4096, 2);\n\
+digits += spelledDigits(pair, 3);\n\
+}\n\
+}\n\
+}\n\
+const spelledDigits = (value, count) => value.toString(16).toUpperCase().padStart(count, '0');\n\
+function readScriptRow(reader) {\n\
+const first = reader.letter();\n\
+if (first === '\\t') return reader.row();\n\
+const place = first.charCodeAt(0) - 65;\n\
+if (place >= 0 && place < 20) {\n\
+const word = place < 10 ? 'read' : 'write';\n\
+return `${word} ${place % 10} 0x${reader.digits()} ${reader.digits()}`;\n\
+}\n\
+reader.at--;\n\
+return reader.row();\n\
+}\n\
+function readAnswerRow(reader) {\n\
+const first = reader.letter();\n\
+if (first === '\\t') return reader.row();\n\
+reader.at--;\n\
+return first === ' ' || first === '\\n' ? 'ok' + reader.row() : 'ok ' + reader.digits();\n\
+}\n\
+function readRows(text, readRow) {\n\
+const [rows, reader] = [[], new Reader(text)];\n\
+while (reader.hasMore) rows.push(readRow(reader));\n\
+return rows;\n\
 }\n\
 function readLog(reader, classes, script, answers) {\n\
 const lines = [{ number: 0, text: '', answer: '', isOk: true }];\n\
@@ -412,10 +449,9 @@ else if (reader.hasMore) readLine(kinds[reader.letter()]);\n\
 return log;\n\
 }\n\
 const textOf = (name) => element('data-' + name).textContent;\n\
-const rowsOf = (name) => textOf(name).split('\\n').slice(0, -1);\n\
-const readAnswer = (text) => (text.startsWith('\\t') ? text.slice(1) : 'ok' + text);\n\
 function readData() {\n\
-const [script, answers] = [rowsOf('script'), rowsOf('answers').map(readAnswer)];\n\
+const script = readRows(textOf('script'), readScriptRow);\n\
+const answers = readRows(textOf('answers'), readAnswerRow);\n\
 const log = readLog(new Reader(textOf('moves')), readClasses(textOf('classes')), script, answers);\n\
 const count = log.lines.length - 1;\n\
 const name = textOf('name').trim().split(/[/\\\\]/).pop();\n\

@@ -8,12 +8,12 @@ use Rattle.mm_observations.specs.{run_after, run_lines_from}
 use Rattle.mm_observations.specs.declared.run_lines.RunLines.{RunLines}
 
 -- a line, and those behind it
-drop_at : (xs : List Text) (i : ℕ) (x : Text) → Some x ≡ slice_get xs i → drop i xs ≡ x ∷ drop (i + 1) xs
+pub drop_at : (xs : List Text) (i : ℕ) (x : Text) → Some x ≡ slice_get xs i → drop i xs ≡ x ∷ drop (i + 1) xs
 drop_at xs i x e =
     let there : slice_get xs i ≡ Some x = sym e in
     drop_more xs i [] (slice_get_within xs i x there) ∙ ap (λ y. y ∷ drop (i + 1) xs) (get_or_from_slice_get xs i x [] there)
 
-none_at : (xs : List Text) (i : ℕ) → None ≡ slice_get xs i → drop i xs ≡ []
+pub none_at : (xs : List Text) (i : ℕ) → None ≡ slice_get xs i → drop i xs ≡ []
 none_at xs i e = elim (slice_get_cases xs i).1 [
   | inl there ↦ absurd (cc (e, there.2))
   | inr over ↦ drop_all i xs over.0

@@ -5,13 +5,14 @@ use Rattle.std.specs.Prelude.{None, codes}
 use Rattle.mm_types.specs.{Text, Move}
 use Rattle.mm_move_classes.specs.{log_data}
 use Rattle.mm_log_check.specs.{Shows, IsRefusedLog}
-use Rattle.mm_log_walk.specs.{lines_of, shown_file, shown_line, answer_file, Said, Sought, Why, no_why}
+use Rattle.mm_log_walk.specs.{lines_of, shown_line, Said, Sought, Why, no_why}
 use Rattle.mm_log_walk.specs.declared.seeking.Sought.TheVariants as sought
 use Rattle.mm_sentences.specs.{why_not}
 use Rattle.mm_reports.specs.{counts_rows, fault_rows, frame_history, key_history, state_rows, use_rows}
 use Rattle.mm_reports.specs.declared.styles.Style.TheVariants as style
 use Rattle.mm_transcripts.specs.{transcript}
 use Rattle.mm_events.specs.{events}
+use Rattle.mm_show.specs.Rows.{script_file, answers_file}
 use Rattle.mm_show.specs.Words.{class_rows}
 use Rattle.mm_show.specs.Sums.{sums_text}
 use Rattle.mm_show.specs.declared.forms.Form.{Form}
@@ -40,7 +41,7 @@ name_row (Some script) name = shown_line name
 
 abbrev pub script_text : PageOf → Option (List Text) → Option (List Text) → Text
 script_text p script answers =
-    p.up_to_script ++ (shown_file script ++ (p.up_to_answers ++ (answer_file answers
+    p.up_to_script ++ (script_file script ++ (p.up_to_answers ++ (answers_file answers
     ++ (p.up_to_name ++ name_row script p.name))))
 
 abbrev pub behind_text : PageOf → Option (List Text) → Option (List Text) → Text

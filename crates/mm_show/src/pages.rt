@@ -3,8 +3,9 @@ ghost use Rattle.mm_types.specs.{Move};
 ghost use Rattle.mm_move_rules.specs.{unstarted};
 
 use crate::data::PageTeller;
+use crate::rows::{put_answers_file, put_script_file};
 use crate::words::put_classes;
-use mm_log_walk::{Lines, put_answers, put_file, put_line};
+use mm_log_walk::{Lines, put_line};
 use mm_types::NoMemory;
 use std::alloc::Global;
 
@@ -75,9 +76,9 @@ fn put_script(
         ++ script_text (page_read page.now named.now) script.now answers.now) }
 {
     text.extend_from_slice(page.up_to_script)?;
-    put_file(script, text)?;
+    put_script_file(script, text)?;
     text.extend_from_slice(page.up_to_answers)?;
-    put_answers(answers, text)?;
+    put_answers_file(answers, text)?;
     text.extend_from_slice(page.up_to_name)?;
     put_name(script, named.name, text)
 }
