@@ -3,10 +3,10 @@
 use Rattle.std.specs.Prelude.{◌≡◌, ◌≤◌, ◌<◌, ◌+◌, ◌^◌, ℕ, true, is_some, length, min, nat_le, Option, Some, Result, IfOk, IsOk, OnErr}
 use Rattle.mm_types.specs.{Answer, NoMemory, Key, Pid, Range}
 use Rattle.mm_types.specs.declared.moves.LineKind.TheVariants as line_kind
-use Rattle.mm_world.specs.{Page, ProcessOf, charge, limit, Tables, blank, process_of, OutcomeOf, is_success, new_process, most_processes}
+use Rattle.mm_world.specs.{Page, ProcessOf, charge, limit, Tables, blank, process_of, OutcomeOf, is_success}
 use Rattle.mm_world.specs.Alloc.{commit_pages}
 use Rattle.mm_store.specs.{Ghosts as PageStoreGhosts, Turn, MakesFrom, MakesStack, leaving, StoreOf, Goes}
-use Rattle.mm_object_tables.specs.{FitsTables, Called, Settled, before_process, is_uncommitted, store_beside, PassesAs, MakesPages, StandsFrom}
+use Rattle.mm_object_tables.specs.{FitsTables, Called, Settled, is_uncommitted, store_beside, PassesAs, MakesPages, StandsFrom}
 
 -- a stack of these pages has room for its top pages, its guard page and one page more
 pub record IsTallEnough (top : ℕ) (range : Range) : Type 0 where
@@ -41,13 +41,6 @@ module _ {G : Type 0} (p : PageStoreGhosts G) where
     pub fits : FitsTables t (p.contents g) (p.store g)
     pub kind_is : (p.store g).kind ≡ line_kind.Call
     pub begun : (p.store g).report.file_writes.failed ≡ 0
-
-  -- the line of the next process, if there may be one more, which the store counts already
-  pub record BeginsProcess (min max : ℕ) (t : Tables) (g : G) : Type 0 where
-    pub starts : FitsTables t (p.contents g) (before_process t (p.store g))
-    pub last_pid : (p.store g).last_pid + 1 ≡ length (new_process t).world.processes
-    pub kind_is : nat_le (length t.processes) most_processes ≡ true →
-        (p.store g).kind ≡ line_kind.Process (record { 0 = length t.processes }) min max
 
   -- the limit allows `n` keys more, and the store has room for them
   pub record HasRoomFor (n : ℕ) (t : Tables) (g : G) : Type 0 where

@@ -7,7 +7,7 @@ pub mod Watching
 pub mod Stages
 pub mod Regions
 pub mod Growth
-pub use CallPromises.{AnswersCall, BeginsCall, BeginsProcess, BeginsRelease, BeginsWrites}
+pub use CallPromises.{AnswersCall, BeginsCall, BeginsRelease, BeginsWrites}
 pub use CallPromises.{ChangesNothing, CommitsRange, DecidesIn, HasRoomFor, IsTallEnough}
 pub use CallPromises.{LacksMemory, LosesPages, MakesIn, MakesInRange, MakesStackPages, StaysFit}
 pub use CallPromises.{StaysSettled}

@@ -1,8 +1,8 @@
-ghost use Rattle.std.specs.Prelude.{◌≡◌, ◌≤◌, ◌+◌, ◌-◌, false, length, nat_le, IfOk, IsOk, OnErr};
+ghost use Rattle.std.specs.Prelude.{◌≡◌, ◌≤◌, ◌+◌, ◌-◌, false, length, IfOk, IsOk, OnErr};
 ghost use Rattle.mm_world.specs.{is_success, grow, new_process, most_processes, exit};
 ghost use Rattle.mm_store.specs.{begun, NotesIn};
-ghost use Rattle.mm_calls.specs.{GrowsBy, BeginsProcess, BeginsRelease, AnswersCall, ChangesNothing, LosesPages, AnswersGrow};
-ghost use Rattle.mm_object_tables.specs.{FitsTables, StaysIdle};
+ghost use Rattle.mm_calls.specs.{GrowsBy, BeginsRelease, AnswersCall, ChangesNothing, LosesPages, AnswersGrow};
+ghost use Rattle.mm_object_tables.specs.{FitsTables, StartsProcess, StaysIdle};
 
 use mm_object_tables::Tables;
 use mm_store::PageStore;
@@ -12,30 +12,28 @@ use std::alloc::Global;
 /// The most page-file slots of a machine.
 const SLOTS: u32 = 262_144;
 
-/// `process` (CreateProcess): a new process without regions. The store's line has begun, with the
-/// pid that the process gets and the least and the greatest size of its working set.
+/// `process` (CreateProcess): a new process without regions. It gets the next pid, which
+/// `Tables::next_pid` found; the store's line has begun, with that pid and the least and the greatest
+/// size of its working set.
 ///
-/// `Full` exactly where 64 processes were made. `NoMemory`, after which tables and store are as
-/// before and no call of this line can follow, comes only where it is not `Full`.
+/// After `NoMemory` tables and store are as before, and no call of this line can follow.
 #[tactic(auto, using(mm_store::proofs::Passed::turns_same))]
 pub fn new_process<G: PageStore>(
     allocator: Global,
     t: &mut Tables,
     g: &mut G,
+    pid: Pid,
     min: u32,
     max: u32,
 ) -> Result<Answer, NoMemory>
-    requires begins { BeginsProcess G.PageStore min max t.old g.old }
+    requires few { length t.old.processes ≤ most_processes }
+    requires next { pid.0 ≡ length t.old.processes }
+    requires starts { StartsProcess G.PageStore pid min max t.old g.old }
     ensures done { IfOk result (λ a. AnswersCall G.PageStore (new_process t.old) t.old g.old a t.new
         g.new) }
     ensures broke { OnErr result (ChangesNothing G.PageStore t.old g.old t.new g.new) }
-    ensures no_memory { nat_le (length t.old.processes) most_processes ≡ false → IsOk result }
     ensures idles { StaysIdle G.PageStore g.old g.new }
 {
-    let pid = match t.next_pid() {
-        Some(pid) => pid,
-        None => return Ok(Answer::Full),
-    };
     t.add_process(allocator, g, pid, min, max)?;
     Ok(Answer::NewProcess(pid))
 }

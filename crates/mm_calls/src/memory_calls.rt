@@ -1,3 +1,5 @@
+#![tactic(auto, using(mm_store::proofs::Passed::turns_same))]
+
 ghost use Rattle.std.specs.Prelude.{◌≡◌, ◌≤◌, ◌<◌, true, false, is_some, Some, IsOk, IfOk, OnErr, option_map};
 ghost use Rattle.mm_types.specs.declared.moves.LineKind.TheVariants as line_kind;
 ghost use Rattle.mm_types.specs.declared.views.Kind.TheVariants as view_kind;
@@ -27,7 +29,6 @@ use std::alloc::Global;
 /// of a page-file section; `InvalidParameter` where a page of a view does not accept the
 /// protection; `CommitmentLimit` where the charge would pass the limit. `NoMemory` comes only where
 /// a region is made, or a page committed that was not; then tables and pages are as before.
-#[tactic(auto, using(mm_store::proofs::Passed::turns_same))]
 pub fn valloc<G: PageStore>(
     allocator: Global,
     t: &mut Tables,
@@ -61,7 +62,6 @@ pub fn valloc<G: PageStore>(
 }
 
 /// Reserves pages of a living process, watched or not, and commits them where the type says so.
-#[tactic(auto, using(mm_store::proofs::Passed::turns_same))]
 fn reserve<G: PageStore>(
     allocator: Global,
     t: &mut Tables,
@@ -95,7 +95,6 @@ fn reserve<G: PageStore>(
 
 /// Commits pages of a living process, in a private region or in a view, as `valloc` does.
 /// `NoMemory` comes only where the store has no room for them.
-#[tactic(auto, using(mm_store::proofs::Passed::turns_same))]
 pub fn commit<G: PageStore>(
     t: &mut Tables,
     g: &mut G,
@@ -130,7 +129,6 @@ pub fn commit<G: PageStore>(
 
 /// Commits section pages under pages of the view around them, which has these pages, and gives the
 /// view's rows the protection.
-#[tactic(auto, using(mm_store::proofs::Passed::turns_same))]
 fn commit_view<G: PageStore>(
     t: &mut Tables,
     g: &mut G,
@@ -233,7 +231,6 @@ fn freed_pages(t: &Tables, pid: Pid, addr: u32, size: u32) -> Option<PageRange>
 /// region; `InvalidParameter` for a protection that one of them does not accept. `CommitmentLimit`
 /// where the charge of new marks would pass the limit. `NoMemory` comes only where WRITECOPY marks
 /// a page of a view that has no mark yet; then tables and bytes are as before.
-#[tactic(auto, using(mm_store::proofs::Passed::turns_same))]
 pub fn protect<G: PageStore>(
     t: &mut Tables,
     g: &mut G,
@@ -259,7 +256,6 @@ pub fn protect<G: PageStore>(
 }
 
 /// Gives pages of a living process another protection, which a page can have.
-#[tactic(auto, using(mm_store::proofs::Passed::turns_same))]
 fn protect_range<G: PageStore>(
     t: &mut Tables,
     g: &mut G,

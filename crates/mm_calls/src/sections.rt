@@ -1,3 +1,5 @@
+#![tactic(auto, using(mm_store::proofs::Passed::turns_same))]
+
 ghost use Rattle.std.specs.Prelude.{◌≡◌, ◌≤◌, Bool, true, false, is_some, Option, Some, None, IfOk, IsOk, OnErr, option_map, option_and_then};
 ghost use Rattle.mm_types.specs.{Place};
 ghost use Rattle.mm_types.specs.declared.answers.Answer.TheVariants as answer;
@@ -24,7 +26,6 @@ use std::alloc::Global;
 /// that are no protection with or without SEC_COMMIT or SEC_RESERVE, a size of 0 or of more than
 /// 0x7FFE0000; `CommitmentLimit` where the charge of a new section's pages would pass the limit.
 /// After `NoMemory`, which none of these comes to, tables and pages are as before.
-#[tactic(auto, using(mm_store::proofs::Passed::turns_same))]
 pub fn create<G: PageStore>(
     allocator: Global,
     t: &mut Tables,
@@ -125,7 +126,6 @@ pub fn open_section(t: &mut Tables, pid: Pid, name: &Name) -> Result<Answer, NoM
 /// section to which neither handle nor view refers ends, and a page-file section's pages with it.
 ///
 /// `InvalidHandle` for a process that does not live, or has no such handle.
-#[tactic(auto, using(mm_store::proofs::Passed::turns_same))]
 pub fn close<G: PageStore>(t: &mut Tables, g: &mut G, pid: Pid, handle: u32) -> Answer
     requires begins { BeginsCall G.PageStore t.old g.old }
     ensures done { AnswersCall G.PageStore (close t.old pid.0 handle) t.old g.old result t.new g.new }
@@ -168,7 +168,6 @@ fn add_existing(t: &mut Tables, pid: Pid, id: SectionId) -> Result<Answer, NoMem
 }
 
 /// A new section of the paging file; no section has its name.
-#[tactic(auto, using(mm_store::proofs::Passed::turns_same))]
 fn add_paging_section<G: PageStore>(
     allocator: Global,
     t: &mut Tables,

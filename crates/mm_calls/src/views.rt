@@ -1,3 +1,5 @@
+#![tactic(auto, using(mm_store::proofs::Passed::turns_same))]
+
 ghost use Rattle.std.specs.Prelude.{◌≡◌, ◌≤◌, ◌+◌, true, false, Some, if◌then◌else◌, IfOk, IfSome, IsOk, OnErr};
 ghost use Rattle.mm_types.specs.{is_granule_address};
 ghost use Rattle.mm_types.specs.declared.codes.Code.TheVariants as code;
@@ -25,7 +27,6 @@ use std::alloc::Global;
 /// the view does not lie within its section, or its pages are not free user pages;
 /// `CommitmentLimit` where the charge of a copy view would pass the limit. After `NoMemory`, which
 /// none of these comes to, tables and pages are as before.
-#[tactic(auto, using(mm_store::proofs::Passed::turns_same))]
 pub fn map<G: PageStore>(
     allocator: Global,
     t: &mut Tables,
@@ -68,7 +69,6 @@ pub fn map<G: PageStore>(
 }
 
 /// Maps a view of the section of a handle of a living process.
-#[tactic(auto, using(mm_store::proofs::Passed::turns_same))]
 fn map_handle<G: PageStore>(
     allocator: Global,
     t: &mut Tables,
@@ -133,7 +133,6 @@ fn viewed_pages(total: u32, first: u32, view_length: u32) -> Option<u32>
 }
 
 /// Places a view of `count` pages, which lies within its section.
-#[tactic(auto, using(mm_store::proofs::Passed::turns_same))]
 fn place_view<G: PageStore>(
     allocator: Global,
     t: &mut Tables,
@@ -189,7 +188,6 @@ fn charged_pages(access: ViewAccess, count: u32) -> u32
 ///
 /// `InvalidHandle` for a process that does not live; `InvalidAddress` where no view has the address
 /// as its base, to the byte.
-#[tactic(auto, using(mm_store::proofs::Passed::turns_same))]
 pub fn unmap<G: PageStore>(t: &mut Tables, g: &mut G, pid: Pid, addr: u32) -> Answer
     requires begins { BeginsRelease G.PageStore pid t.old g.old }
     ensures done { AnswersCall G.PageStore (unmap t.old pid.0 addr) t.old g.old result t.new g.new }

@@ -197,21 +197,24 @@ module _ {G : Type 0} (p : PageStoreGhosts G) {n : ℕ} {t : Tables} (pid : Pid)
 
 -- ---- a process
 
-record FoundIf {X : Type 0} (b : Bool) (x y : X) : Type 0 where
-  is : b ≡ true
-  same : x ≡ y
+-- a pid is that of the next process, of which there may be one more
+pub record IsNextPid (t : Tables) (pid : Pid) : Type 0 where
+  pub room : nat_le (length t.processes) most_processes ≡ true
+  pub same : pid ≡ record { 0 = length t.processes }
 
-some-if : {X : Type 0} (b : Bool) (x y : X) (o : Option X) → o ≡ Some y → o ≡ cond b (Some x) None → FoundIf b x y
-some-if true x y o e f = record { is = refl; same = cc }
-some-if false x y o e f = let bad : Some y ≡ None = sym e ∙ f in cc
+pub next-pid : (t : Tables) (pid : Pid) (o : Option Pid) → o ≡ Some pid → o ≡ cond (nat_le (length t.processes) most_processes) (Some (record { 0 = length t.processes })) None → IsNextPid t pid
+next-pid t pid o is told = by (nat_le (length t.processes) most_processes) refl (sym is ∙ told)
+  where
+    by : (b : Bool) → nat_le (length t.processes) most_processes ≡ b → Some pid ≡ cond b (Some (record { 0 = length t.processes })) None → IsNextPid t pid
+    by true room e = record { room = room; same = cc }
+    by false room e = cc
 
-pub process_kind : (t : Tables) (old new : Key → Option Page) (pid : Pid) (o : Option Pid) (a : Answer) (after : Tables) (min max : ℕ) → o ≡ Some pid
-    → o ≡ cond (nat_le (length t.processes) most_processes) (Some (record { 0 = length t.processes })) None → Called (new_process t) t old a after new → kind.Process pid min max ≡ made_process a min max
-process_kind t old new pid o a after min max is told called =
-    let h = some-if (nat_le (length t.processes) most_processes) (record { 0 = length t.processes }) pid o is told in
+pub process_kind : (t : Tables) (old new : Key → Option Page) (pid : Pid) → IsNextPid t pid → (a : Answer) (after : Tables) (min max : ℕ)
+    → Called (new_process t) t old a after new → kind.Process pid min max ≡ made_process a min max
+process_kind t old new pid h a after min max called =
     let answers : a ≡ answer.NewProcess pid =
     sym (ap (λ (q : OutcomeOf (Unit {0})). q.answer) called.outcome)
-    ∙ (λ i. (cond (h.is i) (outcome (answer.NewProcess (h.same i)) (record t { processes = t.processes ++ Some no_regions ∷ [] })) (outcome answer.Full t)).answer) in
+    ∙ (λ i. (cond (h.room i) (outcome (answer.NewProcess (sym h.same i)) (record t { processes = t.processes ++ Some no_regions ∷ [] })) (outcome answer.Full t)).answer) in
     sym (ap (λ (a : Answer). made_process a min max) answers)
 
 -- ---- a trim, an age

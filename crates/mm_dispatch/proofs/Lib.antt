@@ -54,7 +54,7 @@ pub use Marking.{clearings_keep, halted_makes, halted_notes, marked_alone, marke
 pub use Marking.{marked_still, stack_makes, written_keep}
 pub use CallLines.{closes-call, halted_grow, looked, looks-call, makes-keys, makes-none}
 pub use CallLines.{makes-turns, marked_age, marked_exit, marked_fail, marked_file, marked_flush}
-pub use CallLines.{marked_grow, marked_no_age, marked_no_trim, marked_trim, none, process_kind}
-pub use CallLines.{releases-call, takes-looking}
+pub use CallLines.{marked_grow, marked_no_age, marked_no_trim, marked_trim, next-pid, none}
+pub use CallLines.{process_kind, releases-call, takes-looking}
 pub use Noted.{agrees, at-err, at-ok, breaks, decides, stands}
 pub use Memory.{is_ok_with}

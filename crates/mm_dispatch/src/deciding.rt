@@ -38,7 +38,7 @@ fn process_line<G: PageStore>(
         }
     };
     g.line(line, LineKind::Process(pid, min, max));
-    new_process(alloc, t, g, min, max)
+    new_process(alloc, t, g, pid, min, max)
 }
 
 /// Decides a line that a world decides, and that makes no access itself.

@@ -10,5 +10,6 @@ pub mod Back
 pub use Digits.{digits_none}
 pub use Counted.{agrees}
 pub use Tells.{says}
-pub use Plain.{plain_data}
+pub use Plain.{IsPlainText, plain_cons, plain_data, plain_digits, plain_if, plain_more}
+pub use Plain.{plain_numbers}
 pub use Back.{data_back}

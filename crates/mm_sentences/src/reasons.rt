@@ -1,3 +1,5 @@
+#![tactic(auto, using(crate::proofs::Joined::joined))]
+
 ghost use Rattle.std.specs.Prelude.{◌≡◌, ◌+◌, ◌<◌, ◌^◌, ◌++◌, [], OnOk, codes, if◌then◌else◌, length};
 ghost use Rattle.mm_types.specs.{decimal};
 ghost use Rattle.mm_replay.specs.Standing.{life as life_of};
@@ -24,7 +26,6 @@ use mm_types::{Block, Frame, Held, Key, Move, NoMemory, Pid, Place, Request, Slo
 // ---- pieces
 
 /// Writes the line, and what it is not.
-#[tactic(auto, using(crate::proofs::Joined::joined))]
 fn put_line_is(life: &Life, behind: &[u8], text: &mut Vec<u8>) -> Result<(), NoMemory>
     ensures { OnOk result (text.new.items ≡ text.old.items
         ++ line_is (life_of life.now) behind.now) }
@@ -36,7 +37,6 @@ fn put_line_is(life: &Life, behind: &[u8], text: &mut Vec<u8>) -> Result<(), NoM
 }
 
 /// Writes the line, what it is not, and a process.
-#[tactic(auto, using(crate::proofs::Joined::joined))]
 fn put_line_of(life: &Life, words: &[u8], pid: Pid, text: &mut Vec<u8>) -> Result<(), NoMemory>
     ensures { OnOk result (text.new.items ≡ text.old.items
         ++ line_is (life_of life.now) (counted_words words.now pid.0)) }
@@ -51,7 +51,6 @@ fn put_frame_is(frame: Frame, behind: &[u8], text: &mut Vec<u8>) -> Result<(), N
     put_numbered(b"frame ", u64::from(frame.0), behind, text)
 }
 
-#[tactic(auto, using(crate::proofs::Joined::joined))]
 fn put_page_is(key: Key, behind: &[u8], text: &mut Vec<u8>) -> Result<(), NoMemory>
     ensures { OnOk result (text.new.items ≡ text.old.items ++ page_is key behind.now) }
 {
@@ -61,7 +60,6 @@ fn put_page_is(key: Key, behind: &[u8], text: &mut Vec<u8>) -> Result<(), NoMemo
 }
 
 /// Writes a page, words and a number.
-#[tactic(auto, using(crate::proofs::Joined::joined))]
 fn put_page_counted(key: Key, words: &[u8], n: u32, text: &mut Vec<u8>) -> Result<(), NoMemory>
     ensures { OnOk result
         (text.new.items ≡ text.old.items ++ page_is key (counted_words words.now n)) }
@@ -71,7 +69,6 @@ fn put_page_counted(key: Key, words: &[u8], n: u32, text: &mut Vec<u8>) -> Resul
 }
 
 /// Writes that there is no such page.
-#[tactic(auto, using(crate::proofs::Joined::joined))]
 fn put_no_page(key: Key, text: &mut Vec<u8>) -> Result<(), NoMemory>
     ensures { OnOk result (text.new.items ≡ text.old.items
         ++ (codes "there is no " ++ page_is key [])) }
@@ -80,7 +77,6 @@ fn put_no_page(key: Key, text: &mut Vec<u8>) -> Result<(), NoMemory>
     put_page_is(key, b"", text)
 }
 
-#[tactic(auto, using(crate::proofs::Joined::joined))]
 fn put_place_is(place: Place, behind: &[u8], text: &mut Vec<u8>) -> Result<(), NoMemory>
     ensures { OnOk result (text.new.items ≡ text.old.items ++ place_is place behind.now) }
 {
@@ -101,7 +97,6 @@ fn list_name(list: FrameList) -> &'static [u8]
 }
 
 /// Writes that a list has no frame.
-#[tactic(auto, using(crate::proofs::Joined::joined))]
 fn put_none(list: FrameList, text: &mut Vec<u8>) -> Result<(), NoMemory>
     ensures { OnOk result (text.new.items ≡ text.old.items
         ++ (codes "; " ++ (name_of_list list ++ codes ": none"))) }
@@ -124,7 +119,6 @@ fn put_first_is(life: &Life, list: FrameList, text: &mut Vec<u8>) -> Result<(), 
 }
 
 /// Writes that a frame is not the first of a list.
-#[tactic(auto, using(crate::proofs::Joined::joined))]
 fn put_not_first(
     life: &Life,
     list: FrameList,
@@ -141,7 +135,6 @@ fn put_not_first(
 }
 
 /// Writes the name of a list, words, and which frame is its first.
-#[tactic(auto, using(crate::proofs::Joined::joined))]
 fn put_list_is(
     life: &Life,
     list: FrameList,
@@ -165,7 +158,6 @@ fn put_not_empty(life: &Life, list: FrameList, text: &mut Vec<u8>) -> Result<(),
 }
 
 /// Writes a number, words, and a number.
-#[tactic(auto, using(crate::proofs::Joined::joined))]
 fn put_two(first: u32, words: &[u8], second: u32, text: &mut Vec<u8>) -> Result<(), NoMemory>
     ensures { OnOk result (text.new.items ≡ text.old.items
         ++ (decimal first ++ counted_words words.now second)) }
@@ -200,7 +192,6 @@ fn put_stands(key: Key, held: Held, text: &mut Vec<u8>) -> Result<(), NoMemory>
 }
 
 /// Writes at how many places a page is valid.
-#[tactic(auto, using(crate::proofs::Joined::joined))]
 fn put_mapped(life: &Life, key: Key, held: Held, text: &mut Vec<u8>) -> Result<(), NoMemory>
     ensures { OnOk result (text.new.items ≡ text.old.items
         ++ mapped_at (life_of life.now) key held) }
@@ -216,7 +207,6 @@ fn put_mapped(life: &Life, key: Key, held: Held, text: &mut Vec<u8>) -> Result<(
 }
 
 /// Writes a page, words and a place.
-#[tactic(auto, using(crate::proofs::Joined::joined))]
 fn put_page_at(key: Key, words: &[u8], place: Place, text: &mut Vec<u8>) -> Result<(), NoMemory>
     ensures { OnOk result (text.new.items ≡ text.old.items
         ++ page_is key (words.now ++ place_onto place [])) }
@@ -226,7 +216,6 @@ fn put_page_at(key: Key, words: &[u8], place: Place, text: &mut Vec<u8>) -> Resu
 }
 
 /// Writes a frame, words, a page, words and a place.
-#[tactic(auto, using(crate::proofs::Joined::joined))]
 fn put_frame_page(
     frame: Frame,
     front: &[u8],
@@ -243,7 +232,6 @@ fn put_frame_page(
 }
 
 /// Writes a frame, words and a number.
-#[tactic(auto, using(crate::proofs::Joined::joined))]
 fn put_frame_counted(frame: Frame, words: &[u8], n: u32, text: &mut Vec<u8>) -> Result<(), NoMemory>
     ensures { OnOk result (text.new.items ≡ text.old.items
         ++ frame_is frame (counted_words words.now n)) }
@@ -253,7 +241,6 @@ fn put_frame_counted(frame: Frame, words: &[u8], n: u32, text: &mut Vec<u8>) -> 
 }
 
 /// Writes what a frame holds that is no page of this place.
-#[tactic(auto, using(crate::proofs::Joined::joined))]
 fn put_holds(
     frame: Frame,
     place: Place,
@@ -269,7 +256,6 @@ fn put_holds(
 }
 
 /// Writes words, a name, and a number behind ` is `.
-#[tactic(auto, using(crate::proofs::Joined::joined))]
 fn put_limit(
     words: &[u8],
     name: &[u8],
@@ -286,7 +272,6 @@ fn put_limit(
 }
 
 /// Writes words, a number, and what `put_limit` writes.
-#[tactic(auto, using(crate::proofs::Joined::joined))]
 fn put_pages(
     front: &[u8],
     resident: u32,
@@ -319,7 +304,6 @@ fn put_pages_are(name: &[u8], resident: u32, limit: u32, text: &mut Vec<u8>) -> 
 }
 
 /// Writes words, a process, and how many pages are in its working set.
-#[tactic(auto, using(crate::proofs::Joined::joined))]
 fn put_set_of(
     words: &[u8],
     pid: Pid,
@@ -490,7 +474,6 @@ fn put_not_zeroing(life: &Life, text: &mut Vec<u8>) -> Result<(), NoMemory>
 }
 
 /// Writes that free is empty, and that a frame is not the first zeroed one.
-#[tactic(auto, using(crate::proofs::Joined::joined))]
 fn put_none_free(life: &Life, frame: Frame, text: &mut Vec<u8>) -> Result<(), NoMemory>
     ensures { OnOk result (text.new.items ≡ text.old.items ++ (codes "free is empty, and "
         ++ not_first (codes "zeroed") (life_of life.now).frames.zeroed frame)) }
@@ -520,7 +503,6 @@ fn put_next_process(life: &Life, text: &mut Vec<u8>) -> Result<(), NoMemory>
 }
 
 /// Writes that a frame's page is not a block's.
-#[tactic(auto, using(crate::proofs::Joined::joined))]
 fn put_not_of_block(frame: Frame, block: Block, text: &mut Vec<u8>) -> Result<(), NoMemory>
     ensures { OnOk result (text.new.items ≡ text.old.items
         ++ frame_is frame (counted_words (codes " holds no page of block ") block.0)) }
@@ -618,7 +600,6 @@ fn put_part(life: &Life, part: Part, text: &mut Vec<u8>) -> Result<(), NoMemory>
 
 /// Writes why a move is not legal in this state: which part of its condition fails first. Nothing
 /// where it is legal.
-#[tactic(auto, using(crate::proofs::Joined::joined))]
 pub fn put_refusal(life: &Life, m: &Move, text: &mut Vec<u8>) -> Result<(), NoMemory>
     ensures { OnOk result (text.new.items ≡ text.old.items
         ++ refusal_text (life_of life.now) m.now) }
@@ -642,7 +623,6 @@ fn put_move(m: &Move, text: &mut Vec<u8>) -> Result<(), NoMemory>
 
 /// Writes what stands behind the number of a line that spells a move that is not legal in this
 /// state: the move, and why.
-#[tactic(auto, using(crate::proofs::Joined::joined))]
 pub fn put_why(life: &Life, m: &Move, text: &mut Vec<u8>) -> Result<(), NoMemory>
     ensures { OnOk result (text.new.items ≡ text.old.items ++ why_not (life_of life.now) m.now) }
 {

@@ -1,3 +1,5 @@
+#![tactic(auto, using(crate::proofs::Joined::joined))]
+
 ghost use Rattle.std.specs.Prelude.{◌≡◌, ◌++◌, Bool, OnOk, codes, flat_map};
 ghost use Rattle.mm_move_rules.specs.{FrameLife};
 ghost use Rattle.mm_replay.specs.Standing.{life as life_of};
@@ -25,7 +27,6 @@ fn put_page(key: Option<Key>, text: &mut Vec<u8>) -> Result<(), NoMemory>
     }
 }
 
-#[tactic(auto, using(crate::proofs::Joined::joined))]
 fn put_frame(frame: Option<Frame>, text: &mut Vec<u8>) -> Result<(), NoMemory>
     ensures { OnOk result (text.new.items ≡ text.old.items ++ frame_text frame) }
 {
@@ -108,7 +109,6 @@ fn put_stays(place: Option<Place>, text: &mut Vec<u8>) -> Result<(), NoMemory>
     }
 }
 
-#[tactic(auto, using(crate::proofs::Joined::joined))]
 fn put_list(state: FrameState, text: &mut Vec<u8>) -> Result<(), NoMemory>
     ensures { OnOk result (text.new.items ≡ text.old.items ++ list_text state) }
 {
@@ -161,7 +161,6 @@ enum Name {
 struct Piece(&'static [u8], Name);
 
 /// Writes what stands for a name.
-#[tactic(auto, using(crate::proofs::Joined::joined))]
 fn put_name(
     name: Name,
     facts: &Facts,
@@ -187,7 +186,6 @@ fn put_name(
 }
 
 /// Writes words, and what stands for the name behind them.
-#[tactic(auto, using(crate::proofs::Joined::joined))]
 fn put_piece(
     piece: Piece,
     facts: &Facts,

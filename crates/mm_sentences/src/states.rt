@@ -1,3 +1,5 @@
+#![tactic(auto, using(crate::proofs::Joined::joined))]
+
 ghost use Rattle.std.specs.Prelude.{◌≡◌, ◌++◌, OnOk, codes};
 ghost use Rattle.mm_types.specs.{decimal};
 ghost use Rattle.mm_move_rules.specs.{record_at, is_on};
@@ -139,7 +141,6 @@ fn put_copy(backing: Backing, text: &mut Vec<u8>) -> Result<(), NoMemory>
 }
 
 /// Writes the state of a frame and its page.
-#[tactic(auto, using(crate::proofs::Joined::joined))]
 fn put_row_front(state: FrameState, r: &Record, text: &mut Vec<u8>) -> Result<(), NoMemory>
     ensures { OnOk result (text.new.items ≡ text.old.items
         ++ (listed_text (state_text state) ++ (listed_text (owner_text r.now.owner)
@@ -154,7 +155,6 @@ fn put_row_front(state: FrameState, r: &Record, text: &mut Vec<u8>) -> Result<()
 }
 
 /// Writes its copy, its places and its request.
-#[tactic(auto, using(crate::proofs::Joined::joined))]
 fn put_row_back(r: &Record, text: &mut Vec<u8>) -> Result<(), NoMemory>
     ensures { OnOk result (text.new.items ≡ text.old.items
         ++ (listed_text (copy_text r.now.backing)
@@ -169,7 +169,6 @@ fn put_row_back(r: &Record, text: &mut Vec<u8>) -> Result<(), NoMemory>
 
 /// Writes what is known of a frame in this state, without a line feed: `active, p1.17, changed, no
 /// copy, 1 places, no I/O`.
-#[tactic(auto, using(crate::proofs::Joined::joined))]
 pub fn put_row(state: FrameState, r: &Record, text: &mut Vec<u8>) -> Result<(), NoMemory>
     ensures { OnOk result (text.new.items ≡ text.old.items ++ frame_row_text state r.now) }
 {

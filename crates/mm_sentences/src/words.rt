@@ -1,3 +1,5 @@
+#![tactic(auto, using(crate::proofs::Joined::joined))]
+
 ghost use Rattle.std.specs.Prelude.{◌≡◌, ◌<◌, ◌^◌, ◌++◌, ◌∷◌, [], OnOk, codes};
 ghost use Rattle.mm_types.specs.{decimal, glyph};
 ghost use Rattle.mm_move_rules.specs.{numbered, kind_onto, place_onto};
@@ -69,7 +71,6 @@ pub fn put_number(n: u64, text: &mut Vec<u8>) -> Result<(), NoMemory>
 }
 
 /// Writes words and a number.
-#[tactic(auto, using(crate::proofs::Joined::joined))]
 pub fn put_counted(words: &[u8], n: u64, text: &mut Vec<u8>) -> Result<(), NoMemory>
     ensures { OnOk result (text.new.items ≡ text.old.items ++ (words.now ++ decimal n)) }
 {
@@ -78,7 +79,6 @@ pub fn put_counted(words: &[u8], n: u64, text: &mut Vec<u8>) -> Result<(), NoMem
 }
 
 /// Writes words, a number, and words.
-#[tactic(auto, using(crate::proofs::Joined::joined))]
 pub fn put_numbered(words: &[u8], n: u64, behind: &[u8], text: &mut Vec<u8>) -> Result<(), NoMemory>
     ensures { OnOk result (text.new.items ≡ text.old.items ++ numbered words.now n behind.now) }
 {
@@ -87,7 +87,6 @@ pub fn put_numbered(words: &[u8], n: u64, behind: &[u8], text: &mut Vec<u8>) -> 
 }
 
 /// Writes two numbers, each behind words, and words behind them.
-#[tactic(auto, using(crate::proofs::Joined::joined))]
 pub fn put_pair(
     words: &[u8],
     first: u64,
@@ -104,7 +103,6 @@ pub fn put_pair(
 }
 
 /// Writes two numbers, and a point between them.
-#[tactic(auto, using(crate::proofs::Joined::joined))]
 fn put_pointed(first: u32, second: u32, text: &mut Vec<u8>) -> Result<(), NoMemory>
     ensures { OnOk result (text.new.items ≡ text.old.items
         ++ numbered [] first (numbered (codes ".") second [])) }
@@ -115,7 +113,6 @@ fn put_pointed(first: u32, second: u32, text: &mut Vec<u8>) -> Result<(), NoMemo
 }
 
 /// Writes a key as logs spell it: `p1.17`, `s0.3`.
-#[tactic(auto, using(crate::proofs::Joined::joined))]
 pub fn put_key(key: Key, text: &mut Vec<u8>) -> Result<(), NoMemory>
     ensures { OnOk result (text.new.items ≡ text.old.items ++ key_text key) }
 {
@@ -143,7 +140,6 @@ fn put_hex(n: u32, text: &mut Vec<u8>) -> Result<(), NoMemory>
 }
 
 /// Writes the address of a page, in parentheses behind a space.
-#[tactic(auto, using(crate::proofs::Joined::joined))]
 fn put_address(vpn: Vpn, text: &mut Vec<u8>) -> Result<(), NoMemory>
     requires { vpn.0 < 2 ^ 20 }
     ensures { OnOk result (text.new.items ≡ text.old.items ++ address_text vpn.0) }
@@ -173,7 +169,6 @@ fn put_plain_place(place: Place, text: &mut Vec<u8>) -> Result<(), NoMemory>
 
 /// Writes a place as logs spell it, `1.17`, and where asked its address behind it: `1.17
 /// (0x11000)`.
-#[tactic(auto, using(crate::proofs::Joined::joined))]
 pub fn put_place(address: bool, place: Place, text: &mut Vec<u8>) -> Result<(), NoMemory>
     ensures { OnOk result (text.new.items ≡ text.old.items ++ place_text address place) }
 {
@@ -193,7 +188,6 @@ fn put_kind_number(word: &[u8], n: u32, text: &mut Vec<u8>) -> Result<(), NoMemo
 }
 
 /// Writes the numbers of a machine.
-#[tactic(auto, using(crate::proofs::Joined::joined))]
 fn put_machine(
     frames: u32,
     slots: u32,
@@ -211,7 +205,6 @@ fn put_machine(
 }
 
 /// Writes the numbers of a process.
-#[tactic(auto, using(crate::proofs::Joined::joined))]
 fn put_new_process(pid: Pid, min: u32, max: u32, text: &mut Vec<u8>) -> Result<(), NoMemory>
     ensures { OnOk result (text.new.items ≡ text.old.items
         ++ kind_text (kind_of.Process pid min max)) }

@@ -1,12 +1,12 @@
-use Rattle.std.proofs.Common.{◌∙◌, rules, arith, refl, subst, Option, ◌≡◌, false}
-use Rattle.std.proofs.lemmas.Grind.{common_steps}
+use Rattle.std.proofs.Common.{◌∙◌, rules, refl, sym, ap, subst, Option, ◌≡◌, true, false, length}
+use Rattle.std.proofs.lemmas.Bool.{leb-true}
 use Rattle.mm_types.specs.declared.answers.Answer.TheVariants as answer
 use Rattle.mm_types.specs.declared.events.Event.TheVariants as event
-use Rattle.mm_types.specs.{Key, LineKind}
-use Rattle.mm_world.specs.{Page, new_process, world_with}
+use Rattle.mm_types.specs.{Key, LineKind, Pid}
+use Rattle.mm_world.specs.{Page, new_process, most_processes, world_with}
 use Rattle.mm_object_tables.specs.{Called, key_bytes}
 use Rattle.mm_world.proofs.{new_process_across}
-use Rattle.mm_dispatch.proofs.{quiet-beside, quiet-same, in_new_process, decided-call, begins-line, bytes-kept, none-if, full-process, if-ok, if-err}
+use Rattle.mm_dispatch.proofs.{quiet-beside, quiet-same, in_new_process, decided-call, begins-line, bytes-kept, none-if, full-process, next-pid, if-ok, if-err}
 use Rattle.mm_dispatch.proofs.{marked_alone, marked_still, halted_makes, process_kind, idle-still}
 use Rattle.mm_types.specs.declared.moves.LineKind.TheVariants as kind
 use Rattle.mm_dispatch.specs.{MarkedAs}
@@ -37,13 +37,20 @@ returns-in-None g c =
     }
 
 pub new_process-requires : goal.new_process-requires
-new_process-requires g c = record { begins = record { starts = search rules; last_pid = grind (arith, common_steps); kind_is = search rules } }
+new_process-requires g c =
+    let next = next-pid c.args.t.now c.in-Some.pid c.next_pid.result c.in-Some.is c.next_pid.ensures in
+    record {
+      few = leb-true (length c.args.t.now.processes) most_processes next.room;
+      next = ap (λ (p : Pid). p.0) next.same;
+      starts = record { kind_is = search rules; fits = search rules; last_pid = search rules };
+    }
 
 pub returns : goal.returns
 returns g c =
     let t = c.args.t.now in
     let old = g.G.PageStore.contents c.args.g.now in
     let call = c.new_process in
+    let next = next-pid t c.in-Some.pid c.next_pid.result c.in-Some.is c.next_pid.ensures in
     let new = g.G.PageStore.contents call.new.g in
     record {
       done = if-ok call.result call.ensures.done (λ a h. record {
@@ -52,7 +59,7 @@ returns g c =
             (new_process_across t (key_bytes old) c.sound.ensures.sound.spaces) (in_new_process t) refl tt tt
             (subst (λ (old : Key → Option Page). Called (new_process t) t old a call.new.t new) c.line.ensures.contents h.called) h.fits;
         marked = subst (λ (k : LineKind). g.G.PageStore.unpaged ≡ false → MarkedAs k (event.Process c.args.min c.args.max) c.args.line (world_with c.args.t.now (key_bytes (g.G.PageStore.contents c.args.g.now))) (g.G.PageStore.store c.args.g.now) (g.G.PageStore.behind c.args.g.now) a (world_with call.new.t (key_bytes (g.G.PageStore.contents call.new.g))) (g.G.PageStore.store call.new.g) (g.G.PageStore.behind call.new.g))
-            (process_kind c.args.t.now (g.G.PageStore.contents c.line.new.self) (g.G.PageStore.contents call.new.g) c.in-Some.pid c.next_pid.result a call.new.t c.args.min c.args.max c.in-Some.is c.next_pid.ensures h.called)
+            (process_kind c.args.t.now (g.G.PageStore.contents c.line.new.self) (g.G.PageStore.contents call.new.g) c.in-Some.pid next a call.new.t c.args.min c.args.max h.called)
             (marked_still c.args.line (kind.Process c.in-Some.pid c.args.min c.args.max) (event.Process c.args.min c.args.max) (world_with c.args.t.now (key_bytes (g.G.PageStore.contents c.args.g.now))) a (world_with call.new.t (key_bytes (g.G.PageStore.contents call.new.g))) g.G.PageStore.unpaged
             (g.G.PageStore.store c.args.g.now) (g.G.PageStore.store c.line.new.self) (g.G.PageStore.store call.new.g) (g.G.PageStore.behind c.args.g.now) (g.G.PageStore.behind c.line.new.self) (g.G.PageStore.behind call.new.g)
             (record { ages = λ ms. refl; waits = λ ws l. refl }) (λ ms h. h) c.line.ensures.passes call.ensures.idles.passes);
@@ -61,6 +68,6 @@ returns g c =
         idle = idle-still (begins-line _ _ _ _ c.line.ensures.store) c.line.ensures.contents h.store h.tables h.contents;
         halted = halted_makes (world_with t (key_bytes old)) (event.Process c.args.min c.args.max) c.args.line (kind.Process c.in-Some.pid c.args.min c.args.max) (answer.NewProcess c.in-Some.pid) refl g.G.PageStore.unpaged (g.G.PageStore.store c.args.g.now) (g.G.PageStore.store c.line.new.self) (g.G.PageStore.store c.new_process.new.g) (g.G.PageStore.behind c.args.g.now) (g.G.PageStore.behind c.line.new.self) (g.G.PageStore.behind c.new_process.new.g) c.line.ensures.passes (c.new_process.ensures.idles.passes Makes);
       });
-      no_memory = call.ensures.no_memory;
+      no_memory = λ full. let bad : true ≡ false = sym next.room ∙ full in cc;
       loans = call.ensures.idles.loans ∙ c.line.ensures.loans;
     }
