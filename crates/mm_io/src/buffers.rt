@@ -24,13 +24,13 @@ pub enum Found {
 
 /// The bytes that were taken from a source and not used yet.
 #[derive(Drop)]
-pub struct Held {
+pub struct InputBuffer {
     bytes: [u8; ROOM],
     start: usize,
     end: usize,
 }
 
-impl Model for Held {
+impl Model for InputBuffer {
     ghost Value = { List ℕ };
 
     ghost view = { λ h. take (h.end - h.start) (drop h.start h.bytes) };
@@ -48,11 +48,11 @@ fn move_front(bytes: &mut [u8; ROOM], start: usize, n: usize)
     }
 }
 
-impl Held {
-    pub fn new() -> Held
+impl InputBuffer {
+    pub fn new() -> InputBuffer
         ensures { result ≡ [] }
     {
-        Held {
+        InputBuffer {
             bytes: [0; ROOM],
             start: 0,
             end: 0,

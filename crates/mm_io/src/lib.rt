@@ -21,7 +21,7 @@ ghost use Rattle.mm_types.specs.{Loans};
 ghost use Rattle.mm_io.specs.Io.{CountsFaults, Reads, Takes, GivesOn, spare_read};
 
 pub use adapters::{StdSink, StdSource};
-pub use buffers::{Found, Held};
+pub use buffers::{Found, InputBuffer};
 pub use looks::Look;
 pub use mem_sink::MemSink;
 pub use mem_source::MemSource;

@@ -8,7 +8,7 @@ ghost use Rattle.mm_log_check.specs.Reading.{IsReadyToRead, Reading, ReadsMoves,
 
 use crate::endings::Ending;
 use crate::fronts::front_move;
-use mm_io::{Found, Held, Source};
+use mm_io::{Found, InputBuffer, Source};
 use mm_replay::{Life, read_move};
 use mm_types::{Failed, Move};
 
@@ -21,7 +21,7 @@ pub const MOST_LINES: u64 = 1_000_000_000_001;
 /// A log that is read line by line. It holds one line, and what one read gives.
 #[derive(Drop)]
 pub struct LogReader {
-    held: Held,
+    held: InputBuffer,
     /// How many lines were taken.
     lines: u64,
     /// How many bytes were taken from the source.
@@ -36,7 +36,7 @@ impl LogReader {
         ensures none { (left : Option (List ℕ)) → Reading left left result [] }
     {
         LogReader {
-            held: Held::new(),
+            held: InputBuffer::new(),
             lines: 0,
             bytes: 0,
         }
@@ -159,14 +159,14 @@ impl LogReader {
 }
 
 /// How many bytes are held.
-fn held_len(held: &Held) -> usize
+fn held_len(held: &InputBuffer) -> usize
     ensures { result ≡ length held.now }
 {
     held.bytes().len()
 }
 
 /// The end of a log, after so many whole lines: nothing may be left.
-fn last_line(held: &Held, lines: u64) -> Ending
+fn last_line(held: &InputBuffer, lines: u64) -> Ending
     requires { lines ≤ most_log_bytes }
     ensures whole { held.now ≡ [] → result ≡ Ending.Yes }
     ensures cut { 0 < length held.now → result ≡ Ending.No (lines + 1) None }

@@ -10,7 +10,7 @@ use crate::answers::Kept;
 use crate::endings::Ending;
 use crate::readings::later_event;
 use mm_dispatch::World;
-use mm_io::{Found, Held, Look, Sink, Source};
+use mm_io::{Found, InputBuffer, Look, Sink, Source};
 use mm_store::FlushesMoves;
 use mm_types::{Answer, Event, NoMemory};
 use std::alloc::Global;
@@ -19,7 +19,7 @@ use std::alloc::Global;
 pub(crate) const LINES: u32 = 1_000_000;
 
 /// Keeps an answer, and goes past its line.
-pub(crate) fn tell(held: &mut Held, len: usize, answer: &Answer, kept: &mut Kept)
+pub(crate) fn tell(held: &mut InputBuffer, len: usize, answer: &Answer, kept: &mut Kept)
     requires line { HasLine held.old len }
     requires room { length kept.old + 256 ≤ 65536 }
     ensures held { held.new ≡ drop (len + 1) held.old }
@@ -67,7 +67,7 @@ pub(crate) fn decide<G: FlushesMoves>(
 /// in the one place that is kept for events.
 fn answer_line<G: FlushesMoves>(
     alloc: Global,
-    held: &mut Held,
+    held: &mut InputBuffer,
     len: usize,
     n: u32,
     event: &mut Event,
@@ -116,7 +116,11 @@ fn at_end(n: u32, len: usize) -> Ending
 
 /// Reads until it is known what stands in front: a line of so many bytes, or what a run comes to
 /// there after n lines.
-pub(crate) fn next_line<S: Source>(held: &mut Held, n: u32, source: &mut S) -> Result<usize, Ending>
+pub(crate) fn next_line<S: Source>(
+    held: &mut InputBuffer,
+    n: u32,
+    source: &mut S,
+) -> Result<usize, Ending>
     requires few { n < 1000000 }
     requires held { length held.old < 4096 }
     ensures finds { (out : Output) (kept : List ℕ) (z : Stage) →
@@ -177,7 +181,7 @@ fn make_room<G: FlushesMoves, O: Sink>(
 /// Finds the line in front, by one search where it is held whole, as most are. Else it reads, with
 /// no move or answer held back.
 fn find_line<G: FlushesMoves, S: Source, O: Sink>(
-    held: &mut Held,
+    held: &mut InputBuffer,
     n: u32,
     world: &mut World<G>,
     kept: &mut Kept,
@@ -209,7 +213,7 @@ fn find_line<G: FlushesMoves, S: Source, O: Sink>(
 /// Reads, decides and answers one line, which is not the first.
 fn decide_line<G: FlushesMoves, S: Source, O: Sink>(
     alloc: Global,
-    held: &mut Held,
+    held: &mut InputBuffer,
     n: u32,
     event: &mut Event,
     world: &mut World<G>,
@@ -239,7 +243,7 @@ fn decide_line<G: FlushesMoves, S: Source, O: Sink>(
 }
 
 /// What a run comes to after the last line that it may have.
-fn behind_last<S: Source>(held: &mut Held, source: &mut S) -> Ending
+fn behind_last<S: Source>(held: &mut InputBuffer, source: &mut S) -> Ending
     requires given { length held.old < 4096 }
     ensures ends { (out : Output) (kept : List ℕ) (z : Scene) → EndsRun held.old LINES
         (moment (input_seen S.Source source.old) out kept (Running z))
@@ -255,7 +259,7 @@ fn behind_last<S: Source>(held: &mut Held, source: &mut S) -> Ending
 /// Decides the lines of a source after the first one, and gives on or keeps their answers.
 pub(crate) fn decide_rest<G: FlushesMoves, S: Source, O: Sink>(
     alloc: Global,
-    held: &mut Held,
+    held: &mut InputBuffer,
     world: &mut World<G>,
     kept: &mut Kept,
     source: &mut S,

@@ -10,7 +10,7 @@ use crate::endings::Ending;
 use crate::readings::read_first;
 use mm_devices::{BlockDevice, Injected};
 use mm_dispatch::World;
-use mm_io::{Held, Sink, Source};
+use mm_io::{InputBuffer, Sink, Source};
 use mm_log_writer::Recorder;
 use mm_pager::Pager;
 use mm_state::State;
@@ -57,7 +57,7 @@ pub(crate) fn open_devices<P: BlockDevice, F: BlockDevice>(
 /// Keeps the answer of the first line, once its move is written, and decides the others.
 fn answer_all<G: FlushesMoves, S: Source, O: Sink>(
     alloc: Global,
-    held: &mut Held,
+    held: &mut InputBuffer,
     len: usize,
     machine: Machine,
     world: &mut World<G>,
@@ -93,7 +93,7 @@ fn answer_all<G: FlushesMoves, S: Source, O: Sink>(
 /// Decides the lines over the world of a state that starts, and gives the state back.
 fn answer_over<T: StateCalls, S: Source, O: Sink>(
     alloc: Global,
-    held: &mut Held,
+    held: &mut InputBuffer,
     len: usize,
     machine: Machine,
     state: T,
@@ -127,7 +127,7 @@ fn answer_over<T: StateCalls, S: Source, O: Sink>(
 /// Runs a machine over devices that were opened for it.
 fn run_machine<S: Source, O: Sink, M: Sink, P: BlockDevice, F: BlockDevice>(
     alloc: Global,
-    held: &mut Held,
+    held: &mut InputBuffer,
     len: usize,
     machine: Machine,
     kept: &mut Kept,
@@ -211,7 +211,7 @@ pub(crate) fn decide_all<S: Source, O: Sink, M: Sink, P: BlockDevice, F: BlockDe
     if !is_form {
         return Ending::Usage;
     }
-    let mut held = Held::new();
+    let mut held = InputBuffer::new();
     let len = match next_line(&mut held, 0, source) {
         Ok(len) => len,
         Err(ending) => return ending,

@@ -11,7 +11,7 @@ ghost use Rattle.mm_script.specs.{is_machine};
 
 use mm_devices::{BlockDevice, Injected, MemBlocks};
 use mm_dispatch::{World, is_machine};
-use mm_io::{Found, Held, Sink, Source, StdSink, StdSource, buffered, exit_code, write_all};
+use mm_io::{Found, InputBuffer, Sink, Source, StdSink, StdSource, buffered, exit_code, write_all};
 use mm_script::parse_line;
 use mm_store::PageStore;
 use mm_text::{LineBuf, spell};
@@ -33,7 +33,7 @@ const OUT_FAULT: u8 = 5;
 const TOO_LONG: u8 = 8;
 
 /// The event of the next line, `None` at the script's end; or the status that the run ends with.
-fn next_event<S: Source>(held: &mut Held, source: &mut S) -> Result<Option<Event>, u8>
+fn next_event<S: Source>(held: &mut InputBuffer, source: &mut S) -> Result<Option<Event>, u8>
     requires { length held.old < 4096 }
     ensures few { OnOk result (length held.new < 4096) }
     ensures event { IfOk result (λ e. IfSome e (λ e. IsWellFormed e)) }
@@ -95,7 +95,7 @@ fn decide_line<G: PageStore, O: Sink>(
 fn decide_lines<G: PageStore, S: Source, O: Sink>(
     alloc: Global,
     world: &mut World<G>,
-    held: &mut Held,
+    held: &mut InputBuffer,
     source: &mut S,
     out: &mut O,
 ) -> u8
@@ -121,7 +121,7 @@ fn over_store<G: PageStore, S: Source, O: Sink>(
     alloc: Global,
     machine: Machine,
     store: G,
-    held: &mut Held,
+    held: &mut InputBuffer,
     source: &mut S,
     out: &mut O,
 ) -> (u8, G)
@@ -140,7 +140,7 @@ fn over_store<G: PageStore, S: Source, O: Sink>(
 fn over_machine<S: Source, O: Sink>(
     alloc: Global,
     machine: Machine,
-    held: &mut Held,
+    held: &mut InputBuffer,
     source: &mut S,
     out: &mut O,
 ) -> u8
@@ -164,7 +164,12 @@ fn over_machine<S: Source, O: Sink>(
 }
 
 /// Decides all lines, of which the first names the machine; the status of their end.
-fn run_lines<S: Source, O: Sink>(alloc: Global, held: &mut Held, source: &mut S, out: &mut O) -> u8
+fn run_lines<S: Source, O: Sink>(
+    alloc: Global,
+    held: &mut InputBuffer,
+    source: &mut S,
+    out: &mut O,
+) -> u8
     requires room { length held.old < 4096 }
 {
     let event = match next_event(held, source) {
@@ -183,7 +188,7 @@ fn simulate(rt: &HostRuntime) -> Result<u8, NoMemory> {
     let alloc: Global = rt.alloc();
     let mut source = StdSource::new(rt.reader());
     let mut out = StdSink::new(buffered(alloc, io::writer(rt))?);
-    let mut held = Held::new();
+    let mut held = InputBuffer::new();
     let status = run_lines(alloc, &mut held, &mut source, &mut out);
     match out.flush() {
         Ok(()) => Ok(status),

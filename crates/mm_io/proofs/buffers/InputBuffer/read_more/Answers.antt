@@ -3,7 +3,7 @@ use Rattle.mm_types.specs.{IsEnd, Took}
 use Rattle.mm_types.proofs.{append_nil, took_none}
 use Rattle.mm_io.specs.{HasRead, ReadsFront}
 use Rattle.mm_io.proofs.{read_view_at}
-use Rattle.mm_io.proofs.buffers.Held.read_more.Goals as goal
+use Rattle.mm_io.proofs.buffers.InputBuffer.read_more.Goals as goal
 
 end_after : (a b : Option (List ℕ)) (xs : List ℕ) → xs ≡ [] → Took a b xs → IsEnd a → IsEnd b
 end_after None None xs e t u = u

@@ -1,7 +1,7 @@
 use Rattle.std.proofs.Common.{◌≡◌, ◌-◌, ◌≤◌, length}
 use Rattle.mm_io.specs.{Filled}
 use Rattle.mm_io.proofs.{Recent}
-use Rattle.mm_io.proofs.buffers.Held.next.Given as goal
+use Rattle.mm_io.proofs.buffers.InputBuffer.next.Given as goal
 
 abbrev pub invariant-loop-n : goal.invariant-loop-n
 invariant-loop-n g l = record {

@@ -1,6 +1,6 @@
 use Rattle.std.proofs.Common.{◌≡◌, ◌-◌, ◌≤◌, length, sym, ap, ◌∙◌, arith, drop}
 use Rattle.mm_io.proofs.{skip_view, length_view}
-use Rattle.mm_io.proofs.buffers.Held.skip.Goals as goal
+use Rattle.mm_io.proofs.buffers.InputBuffer.skip.Goals as goal
 
 pub returns : goal.returns
 returns c =

@@ -1,7 +1,7 @@
 use Rattle.std.proofs.Common.{sym, subst, arith, ◌∙◌}
 use Rattle.mm_io.specs.{FitsLine, HasLine}
 use Rattle.mm_io.proofs.{recent_line, filled_still, filled_then, recent_after}
-use Rattle.mm_io.proofs.buffers.Held.next.Goals as goal
+use Rattle.mm_io.proofs.buffers.InputBuffer.next.Goals as goal
 
 pub returns-in-Line-clause-finds : goal.returns-in-Line-clause-finds
 returns-in-Line-clause-finds g c =
