@@ -1,3 +1,5 @@
+#![tactic(auto, using(mm_sentences::proofs::Joined::joined))]
+
 ghost use Rattle.std.specs.Prelude.{◌≡◌, ◌++◌, OnOk, codes};
 ghost use Rattle.mm_sentences.specs.{home_text};
 ghost use Rattle.mm_events.specs.{class_text, kind_word, class_words, block_words, replaced_words, trimmed_words, behind_words, reason_column};
@@ -114,7 +116,6 @@ fn put_block(block: Option<Block>, text: &mut Vec<u8>) -> Result<(), NoMemory>
 }
 
 /// Writes how a page stood that made room in its working set, if that is known.
-#[tactic(auto, using(mm_sentences::proofs::Joined::joined))]
 fn put_replaced(reason: &Option<Reason>, text: &mut Vec<u8>) -> Result<(), NoMemory>
     ensures { OnOk result (text.new.items ≡ text.old.items ++ replaced_words reason.now) }
 {
@@ -128,7 +129,6 @@ fn put_replaced(reason: &Option<Reason>, text: &mut Vec<u8>) -> Result<(), NoMem
 }
 
 /// Writes how a page stood that was trimmed for want of frames, and its process, if that is known.
-#[tactic(auto, using(mm_sentences::proofs::Joined::joined))]
 fn put_trimmed(reason: &Option<Reason>, text: &mut Vec<u8>) -> Result<(), NoMemory>
     ensures { OnOk result (text.new.items ≡ text.old.items ++ trimmed_words reason.now) }
 {
@@ -166,7 +166,6 @@ fn put_behind(
 }
 
 /// Writes why it happened, or by what, where the class does not say.
-#[tactic(auto, using(mm_sentences::proofs::Joined::joined))]
 pub(crate) fn put_reason(
     class: Class,
     facts: &Facts,
