@@ -1,3 +1,5 @@
+#![tactic(auto, using(mm_text::proofs::DigitCounts::joined))]
+
 ghost use Rattle.std.specs.Prelude.{◌≡◌, ◌++◌, Bool, List, OnOk, flat_map};
 ghost use Rattle.mm_types.specs.{Move};
 ghost use Rattle.mm_move_rules.specs.{unstarted};
@@ -24,7 +26,6 @@ use mm_text::{put_numbers, put_right_number};
 use mm_types::{Counts, Move, NoMemory};
 use std::alloc::Global;
 
-#[tactic(auto, using(mm_text::proofs::DigitCounts::joined))]
 fn put_head(text: &mut Vec<u8>) -> Result<(), NoMemory>
     ensures { OnOk result (text.new.items ≡ text.old.items ++ counts_head) }
 {
@@ -32,7 +33,6 @@ fn put_head(text: &mut Vec<u8>) -> Result<(), NoMemory>
     put_words(b"     active transition      slots   requests\n", text)
 }
 
-#[tactic(auto, using(mm_text::proofs::DigitCounts::joined))]
 fn put_csv_head(text: &mut Vec<u8>) -> Result<(), NoMemory>
     ensures { OnOk result (text.new.items ≡ text.old.items ++ counts_csv_head) }
 {
@@ -72,7 +72,6 @@ fn put_counts(counts: Counts, text: &mut Vec<u8>) -> Result<(), NoMemory>
 }
 
 /// Writes a line's number, and the counts at its end.
-#[tactic(auto, using(mm_text::proofs::DigitCounts::joined))]
 fn put_counts_row(life: &Life, text: &mut Vec<u8>) -> Result<(), NoMemory>
     ensures { OnOk result (text.new.items ≡ text.old.items ++ counts_row (life_of life.now)) }
 {
@@ -195,7 +194,6 @@ impl<'a> Teller for CountsTeller<'a> {
         Ok(())
     }
 
-    #[tactic(auto, using(mm_text::proofs::DigitCounts::joined))]
     fn finish(&mut self, whole: bool, life: &Life, text: &mut Vec<u8>) -> Result<(), NoMemory> {
         put_head_left(self.style, self.begun, text)?;
         if whole {

@@ -1,3 +1,5 @@
+#![tactic(auto, using(mm_text::proofs::DigitCounts::joined))]
+
 ghost use Rattle.std.specs.Prelude.{◌≡◌, ◌++◌, ◌∷◌, [], OnOk, map, flat_map};
 ghost use Rattle.mm_types.specs.{decimal};
 ghost use Rattle.mm_csv.specs.{csv_field, csv_next, csv_row, fields_behind};
@@ -14,7 +16,6 @@ use mm_text::{LineBuf, put_decimal};
 use mm_types::NoMemory;
 
 /// Writes a number as the first field of a row.
-#[tactic(auto, using(mm_text::proofs::DigitCounts::joined))]
 fn put_first_number(n: u64, text: &mut Vec<u8>) -> Result<(), NoMemory>
     ensures { OnOk result (text.new.items ≡ text.old.items ++ csv_field (decimal n)) }
 {
@@ -24,7 +25,6 @@ fn put_first_number(n: u64, text: &mut Vec<u8>) -> Result<(), NoMemory>
 }
 
 /// Writes a number as the next field.
-#[tactic(auto, using(mm_text::proofs::DigitCounts::joined))]
 fn put_next_number(n: u64, text: &mut Vec<u8>) -> Result<(), NoMemory>
     ensures { OnOk result (text.new.items ≡ text.old.items ++ number_next n) }
 {
@@ -53,7 +53,6 @@ fn put_resident_words(sets: &[ResidentSet], text: &mut Vec<u8>) -> Result<(), No
 }
 
 /// Writes the resident pages of each process, in the order of the processes.
-#[tactic(auto, using(mm_text::proofs::DigitCounts::joined))]
 fn put_sets(sets: &[ResidentSet], text: &mut Vec<u8>) -> Result<(), NoMemory>
     ensures { OnOk result (text.new.items ≡ text.old.items ++ sets_text sets.now) }
 {
@@ -77,7 +76,6 @@ fn put_sets_field(life: &Life, room: &mut Vec<u8>, text: &mut Vec<u8>) -> Result
 }
 
 /// Writes the charge and its limit as the last fields of a row; empty ones where none was told.
-#[tactic(auto, using(mm_text::proofs::DigitCounts::joined))]
 fn put_charge(charge: Option<Charge>, text: &mut Vec<u8>) -> Result<(), NoMemory>
     ensures { OnOk result (text.new.items
         ≡ text.old.items ++ fields_behind (charge_fields charge)) }

@@ -1,3 +1,5 @@
+#![tactic(auto, using(mm_text::proofs::DigitCounts::joined))]
+
 ghost use Rattle.std.specs.Prelude.{◌≡◌, ◌<◌, ◌≤◌, ◌+◌, ◌*◌, ◌/◌, ◌^◌, ◌++◌, OnOk, flat_map};
 ghost use Rattle.std.specs.Prelude.{length};
 ghost use Rattle.mm_reports.specs.{tally_of, fault_head, soft_in, share, fault_row, letter, fault_page_text, page_row, process_rows, device_row};
@@ -13,7 +15,6 @@ use mm_text::{LineBuf, put_decimal, put_left, put_numbers, put_right_number};
 use mm_types::NoMemory;
 use std::collections::BTreeMap;
 
-#[tactic(auto, using(mm_text::proofs::DigitCounts::joined))]
 fn put_head(text: &mut Vec<u8>) -> Result<(), NoMemory>
     ensures { OnOk result (text.new.items ≡ text.old.items ++ fault_head) }
 {
@@ -47,7 +48,6 @@ fn percent(hard: u64, soft: u128) -> u64
 }
 
 /// Writes how many of a hundred hard and soft faults are hard, if there are any.
-#[tactic(auto, using(mm_text::proofs::DigitCounts::joined))]
 fn put_share(hard: u64, soft: u128, text: &mut Vec<u8>) -> Result<(), NoMemory>
     requires { soft < 2 ^ 66 }
     ensures { OnOk result (text.new.items ≡ text.old.items ++ share hard soft) }
@@ -61,7 +61,6 @@ fn put_share(hard: u64, soft: u128, text: &mut Vec<u8>) -> Result<(), NoMemory>
 }
 
 /// Writes the row of a process and a page, or of all pages, in columns.
-#[tactic(auto, using(mm_text::proofs::DigitCounts::joined))]
 fn put_fault_row(
     pid: u8,
     page: &[u8],
@@ -153,7 +152,6 @@ fn put_page_rows(
 }
 
 /// Writes the rows of a process: of all its pages together, and of each.
-#[tactic(auto, using(mm_text::proofs::DigitCounts::joined))]
 fn put_process(
     style: Style,
     pages: &BTreeMap<FaultPlace, [u64; 8]>,
@@ -208,7 +206,6 @@ fn put_writes(written: u64, failed: u64, text: &mut Vec<u8>) -> Result<(), NoMem
 }
 
 /// Writes how requests on a device ended.
-#[tactic(auto, using(mm_text::proofs::DigitCounts::joined))]
 fn put_device(name: &[u8], ends: &[u64; 4], text: &mut Vec<u8>) -> Result<(), NoMemory>
     ensures { OnOk result (text.new.items ≡ text.old.items ++ device_row name.now ends.now) }
 {
@@ -248,7 +245,6 @@ fn put_soft(soft: u64, first_uses: u64, text: &mut Vec<u8>) -> Result<(), NoMemo
 }
 
 /// Writes what a check of the log counts.
-#[tactic(auto, using(mm_text::proofs::DigitCounts::joined))]
 fn put_check(counters: &Counters, text: &mut Vec<u8>) -> Result<(), NoMemory>
     ensures { OnOk result (text.new.items
         ≡ text.old.items ++ check_row (tally_of counters.now)) }
@@ -258,7 +254,6 @@ fn put_check(counters: &Counters, text: &mut Vec<u8>) -> Result<(), NoMemory>
 }
 
 /// Writes all that was counted, in columns.
-#[tactic(auto, using(mm_text::proofs::DigitCounts::joined))]
 fn put_columns(counters: &Counters, text: &mut Vec<u8>) -> Result<(), NoMemory>
     ensures { OnOk result (text.new.items
         ≡ text.old.items ++ tally_text style.Columns (tally_of counters.now)) }
@@ -270,7 +265,6 @@ fn put_columns(counters: &Counters, text: &mut Vec<u8>) -> Result<(), NoMemory>
     put_check(counters, text)
 }
 
-#[tactic(auto, using(mm_text::proofs::DigitCounts::joined))]
 fn put_csv_head(text: &mut Vec<u8>) -> Result<(), NoMemory>
     ensures { OnOk result (text.new.items ≡ text.old.items ++ fault_csv_head) }
 {
@@ -281,7 +275,6 @@ fn put_csv_head(text: &mut Vec<u8>) -> Result<(), NoMemory>
 }
 
 /// Writes the faults by the rule of csv.
-#[tactic(auto, using(mm_text::proofs::DigitCounts::joined))]
 fn put_csv(counters: &Counters, text: &mut Vec<u8>) -> Result<(), NoMemory>
     ensures { OnOk result (text.new.items
         ≡ text.old.items ++ tally_text style.Csv (tally_of counters.now)) }

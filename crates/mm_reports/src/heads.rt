@@ -1,3 +1,5 @@
+#![tactic(auto, using(mm_text::proofs::DigitCounts::joined))]
+
 ghost use Rattle.std.specs.Prelude.{◌≡◌, ◌++◌, ◌∷◌, [], List, OnOk, codes};
 ghost use Rattle.mm_types.specs.{Move};
 ghost use Rattle.mm_replay.specs.Standing.{life as life_of};
@@ -20,7 +22,6 @@ fn machine_frames(m: &Move) -> u32
 }
 
 /// Writes what stands above the rows of a log with this first move.
-#[tactic(auto, using(mm_text::proofs::DigitCounts::joined))]
 pub(crate) fn put_head(subject: Subject, m: &Move, text: &mut Vec<u8>) -> Result<(), NoMemory>
     ensures { OnOk result ((ms : List Move) → text.new.items
         ≡ text.old.items ++ history_head subject (m.now ∷ ms)) }
@@ -42,7 +43,6 @@ pub(crate) fn put_head(subject: Subject, m: &Move, text: &mut Vec<u8>) -> Result
 }
 
 /// Writes what stands above the rows of a log without moves.
-#[tactic(auto, using(mm_text::proofs::DigitCounts::joined))]
 pub(crate) fn put_head_alone(subject: Subject, text: &mut Vec<u8>) -> Result<(), NoMemory>
     ensures { OnOk result (text.new.items ≡ text.old.items ++ history_head subject []) }
 {
@@ -56,7 +56,6 @@ pub(crate) fn put_head_alone(subject: Subject, text: &mut Vec<u8>) -> Result<(),
     }
 }
 
-#[tactic(auto, using(mm_text::proofs::DigitCounts::joined))]
 fn put_held(held: Held, text: &mut Vec<u8>) -> Result<(), NoMemory>
     ensures { OnOk result (text.new.items ≡ text.old.items ++ held_words held) }
 {

@@ -1,3 +1,5 @@
+#![tactic(auto, using(mm_text::proofs::DigitCounts::joined))]
+
 ghost use Rattle.std.specs.Prelude.{◌≡◌, ◌++◌, ◌∷◌, [], OnOk, IfOk, codes};
 ghost use Rattle.mm_types.specs.{decimal};
 ghost use Rattle.mm_replay.specs.Standing.{life as life_of};
@@ -45,7 +47,6 @@ pub(crate) fn note(life: &Life, m: &Move) -> Noted
 }
 
 /// Writes the state of a frame before a move and after it, if the move has a frame.
-#[tactic(auto, using(mm_text::proofs::DigitCounts::joined))]
 fn put_change(
     was: Option<FrameState>,
     frame: Option<Frame>,
@@ -80,7 +81,6 @@ fn change_of(
 }
 
 /// Writes the line of a move, and what became of its frame.
-#[tactic(auto, using(mm_text::proofs::DigitCounts::joined))]
 fn put_front(line: u32, change: &[u8], text: &mut Vec<u8>) -> Result<(), NoMemory>
     ensures { OnOk result (text.new.items ≡ text.old.items
         ++ (codes "line " ++ (left_in 7 (decimal line) ++ (32 ∷ [] ++ left_in 26 change.now)))) }
@@ -94,7 +94,6 @@ fn put_front(line: u32, change: &[u8], text: &mut Vec<u8>) -> Result<(), NoMemor
 }
 
 /// Writes the row of a move of this class.
-#[tactic(auto, using(mm_text::proofs::DigitCounts::joined))]
 fn put_row(
     alloc: Global,
     x: &Noted,

@@ -1,3 +1,5 @@
+#![tactic(auto, using(mm_text::proofs::DigitCounts::joined))]
+
 ghost use Rattle.std.specs.Prelude.{◌≡◌, ◌||◌, ◌++◌, [], Bool, List, OnOk, flat_map, true};
 ghost use Rattle.mm_types.specs.{Move};
 ghost use Rattle.mm_move_rules.specs.{unstarted};
@@ -66,7 +68,6 @@ fn put_frame_words(frames: &[u32], text: &mut Vec<u8>) -> Result<(), NoMemory>
 }
 
 /// Writes a name, and frames in order.
-#[tactic(auto, using(mm_text::proofs::DigitCounts::joined))]
 fn put_list(name: &[u8], frames: &[u32], text: &mut Vec<u8>) -> Result<(), NoMemory>
     ensures { OnOk result (text.new.items ≡ text.old.items ++ list_row name.now frames.now) }
 {
@@ -76,7 +77,6 @@ fn put_list(name: &[u8], frames: &[u32], text: &mut Vec<u8>) -> Result<(), NoMem
 }
 
 /// Writes the number of a page, if it is of this process.
-#[tactic(auto, using(mm_text::proofs::DigitCounts::joined))]
 fn put_page_word(pid: u64, page: (u8, u32), text: &mut Vec<u8>) -> Result<(), NoMemory>
     ensures { OnOk result (text.new.items ≡ text.old.items ++ page_word pid page) }
 {
@@ -97,7 +97,6 @@ fn put_page_words(pid: u64, pages: &ValidPages, text: &mut Vec<u8>) -> Result<()
 }
 
 /// Writes the working set of the process of this number, and its valid pages.
-#[tactic(auto, using(mm_text::proofs::DigitCounts::joined))]
 fn put_process(
     pages: &ValidPages,
     pid: u64,
@@ -137,7 +136,6 @@ fn put_slots(life: &Life, text: &mut Vec<u8>) -> Result<(), NoMemory>
 }
 
 /// Writes the four lists and the requests, where these are the lists.
-#[tactic(auto, using(mm_text::proofs::DigitCounts::joined))]
 fn put_lists(
     alloc: Global,
     life: &Life,
@@ -157,7 +155,6 @@ fn put_lists(
 
 /// Writes all that stands at the end of a line. Takes time in proportion to the frames, and to the
 /// valid pages times the processes.
-#[tactic(auto, using(mm_text::proofs::DigitCounts::joined))]
 fn put_state(
     alloc: Global,
     life: &Life,

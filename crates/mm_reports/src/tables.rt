@@ -1,3 +1,5 @@
+#![tactic(auto, using(mm_text::proofs::DigitCounts::joined))]
+
 ghost use Rattle.std.specs.Prelude.{◌≡◌, ◌<◌, ◌^◌, ◌++◌, OnOk, sum, flat_map, codes};
 ghost use Rattle.mm_replay.specs.Standing.{life as life_of};
 ghost use Rattle.mm_reports.specs.{AreListsOf, use_name, sum_row, use_row, use_head, use_table, totals, slots_row, requests_row, working_set_row, set_rows};
@@ -45,7 +47,6 @@ fn sum_of(numbers: &[u64]) -> u64
 }
 
 /// Writes a name, numbers and their sum.
-#[tactic(auto, using(mm_text::proofs::DigitCounts::joined))]
 fn put_sum_row(name: &[u8], numbers: &[u64], text: &mut Vec<u8>) -> Result<(), NoMemory>
     requires { sum numbers.now < 2 ^ 64 }
     ensures { OnOk result (text.new.items ≡ text.old.items ++ sum_row name.now numbers.now) }
@@ -102,7 +103,6 @@ fn put_totals(counts: Counts, text: &mut Vec<u8>) -> Result<(), NoMemory>
     put_sum_row(b"Total                   ", &numbers, text)
 }
 
-#[tactic(auto, using(mm_text::proofs::DigitCounts::joined))]
 fn put_head(text: &mut Vec<u8>) -> Result<(), NoMemory>
     ensures { OnOk result (text.new.items ≡ text.old.items ++ use_head) }
 {
@@ -179,7 +179,6 @@ fn put_sets(sets: &[ResidentSet], text: &mut Vec<u8>) -> Result<(), NoMemory>
 }
 
 /// Writes what the frames are used for, and what else is told of a line.
-#[tactic(auto, using(mm_text::proofs::DigitCounts::joined))]
 pub(crate) fn put_use(alloc: Global, life: &Life, text: &mut Vec<u8>) -> Result<(), NoMemory>
     ensures { OnOk result (text.new.items ≡ text.old.items ++ use_text (life_of life.now)) }
 {
