@@ -1,3 +1,5 @@
+#![tactic(auto, using(mm_sentences::proofs::Joined::joined))]
+
 ghost use Rattle.std.specs.Prelude.{◌≡◌, ◌++◌, None, OnOk, Some, option_map};
 ghost use Rattle.mm_types.specs.declared.moves.Move.TheVariants as move;
 ghost use Rattle.mm_transcripts.specs.{is_next_key, is_next_block, adds_next, folds_with_next, first_then, blocks_text, keys_text, fold_text, fold_row};
@@ -67,7 +69,6 @@ pub(crate) fn keep_first(class: Option<Class>, m: &Move, next: &Move, first: &mu
     }
 }
 
-#[tactic(auto, using(mm_sentences::proofs::Joined::joined))]
 fn put_keys(first: Key, last: Key, text: &mut Vec<u8>) -> Result<(), NoMemory>
     ensures { OnOk result (text.new.items ≡ text.old.items ++ keys_text first last) }
 {
@@ -76,7 +77,6 @@ fn put_keys(first: Key, last: Key, text: &mut Vec<u8>) -> Result<(), NoMemory>
     put_key(last, text)
 }
 
-#[tactic(auto, using(mm_sentences::proofs::Joined::joined))]
 fn put_zero_pages(first: Key, last: Key, text: &mut Vec<u8>) -> Result<(), NoMemory>
     ensures { OnOk result (text.new.items ≡ text.old.items
         ++ fold_text (move.Add first None) (move.Add last None)) }
@@ -86,7 +86,6 @@ fn put_zero_pages(first: Key, last: Key, text: &mut Vec<u8>) -> Result<(), NoMem
     put_words(b" come to be, demand-zero: no frame yet", text)
 }
 
-#[tactic(auto, using(mm_sentences::proofs::Joined::joined))]
 fn put_blocks(first: Block, last: Block, text: &mut Vec<u8>) -> Result<(), NoMemory>
     ensures { OnOk result (text.new.items ≡ text.old.items ++ blocks_text first last) }
 {
@@ -95,7 +94,6 @@ fn put_blocks(first: Block, last: Block, text: &mut Vec<u8>) -> Result<(), NoMem
     put_number(u64::from(last.0), text)
 }
 
-#[tactic(auto, using(mm_sentences::proofs::Joined::joined))]
 fn put_file_pages(
     first: Key,
     from: Block,
@@ -127,7 +125,6 @@ fn put_fold(first: &Move, last: &Move, text: &mut Vec<u8>) -> Result<(), NoMemor
 }
 
 /// Writes the row of such moves.
-#[tactic(auto, using(mm_sentences::proofs::Joined::joined))]
 pub(crate) fn put_fold_row(first: &Move, last: &Move, text: &mut Vec<u8>) -> Result<(), NoMemory>
     ensures { OnOk result (text.new.items ≡ text.old.items ++ fold_row first.now last.now) }
 {

@@ -1,3 +1,5 @@
+#![tactic(auto, using(mm_sentences::proofs::Joined::joined))]
+
 ghost use Rattle.std.specs.Prelude.{◌≡◌, ◌-◌, ◌≤◌, ◌++◌, OnOk, replicate, option_map, true};
 ghost use Rattle.mm_replay.specs.Standing.{life as life_of};
 ghost use Rattle.mm_transcripts.specs.{words_if, trimmed, printable, printed_byte, padded_column, answered_row, asked_row, said_text, names_text, line_row};
@@ -80,7 +82,6 @@ fn put_printed(bytes: &[u8], text: &mut Vec<u8>) -> Result<(), NoMemory>
 }
 
 /// Writes a line, and spaces up to a width of 46.
-#[tactic(auto, using(mm_sentences::proofs::Joined::joined))]
 fn put_padded(line: &[u8], text: &mut Vec<u8>) -> Result<(), NoMemory>
     ensures { OnOk result (text.new.items ≡ text.old.items ++ padded_column line.now) }
 {
@@ -89,7 +90,6 @@ fn put_padded(line: &[u8], text: &mut Vec<u8>) -> Result<(), NoMemory>
 }
 
 /// Writes a line with its answer, if it has one.
-#[tactic(auto, using(mm_sentences::proofs::Joined::joined))]
 fn put_answered(line: &[u8], said: &[u8], text: &mut Vec<u8>) -> Result<(), NoMemory>
     ensures { OnOk result (text.new.items ≡ text.old.items ++ answered_row line.now said.now) }
 {
@@ -130,7 +130,6 @@ fn put_asked(
 }
 
 /// Writes Windows' names of the numbers of a line and of its answer.
-#[tactic(auto, using(mm_sentences::proofs::Joined::joined))]
 fn put_names(line: Option<&[u8]>, said: Option<&[u8]>, text: &mut Vec<u8>) -> Result<(), NoMemory>
     ensures { OnOk result (text.new.items ≡ text.old.items
         ++ names_text (option_map (λ s. s.now) line.entry) (option_map (λ s. s.now) said.entry)) }
@@ -142,7 +141,6 @@ fn put_names(line: Option<&[u8]>, said: Option<&[u8]>, text: &mut Vec<u8>) -> Re
 }
 
 /// Writes the row of a line.
-#[tactic(auto, using(mm_sentences::proofs::Joined::joined))]
 pub(crate) fn put_line_row(
     number: u32,
     kind: LineKind,
@@ -163,7 +161,6 @@ pub(crate) fn put_line_row(
 }
 
 /// Writes why a page left its working set, where that is known.
-#[tactic(auto, using(mm_sentences::proofs::Joined::joined))]
 fn put_reason_if(class: Class, reason: &Option<Reason>, text: &mut Vec<u8>) -> Result<(), NoMemory>
     ensures { OnOk result (text.new.items ≡ text.old.items ++ words_if class reason.now) }
 {
@@ -174,7 +171,6 @@ fn put_reason_if(class: Class, reason: &Option<Reason>, text: &mut Vec<u8>) -> R
 }
 
 /// Writes the row of a move, if it is of a class; `after` is the state after it.
-#[tactic(auto, using(mm_sentences::proofs::Joined::joined))]
 pub(crate) fn put_class_row(
     addressed: bool,
     class: Option<Class>,
