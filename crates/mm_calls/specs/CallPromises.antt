@@ -1,6 +1,6 @@
 -- What the calls ask and promise of tables and store together.
 -- Profile, "Calls".
-use Rattle.std.specs.Prelude.{◌≡◌, ◌≤◌, ◌<◌, ◌+◌, ◌^◌, ℕ, true, is_some, length, min, nat_le, Option, Some, Result, IfOk, IsOk, OnErr}
+use Rattle.std.specs.Prelude.{◌≡◌, ◌≤◌, ◌<◌, ◌+◌, ◌^◌, ℕ, true, is_some, min, Option, Some, Result, IfOk, IsOk, OnErr}
 use Rattle.mm_types.specs.{Answer, NoMemory, Key, Pid, Range}
 use Rattle.mm_types.specs.declared.moves.LineKind.TheVariants as line_kind
 use Rattle.mm_world.specs.{Page, ProcessOf, charge, limit, Tables, blank, process_of, OutcomeOf, is_success}
