@@ -1,7 +1,6 @@
 pub mod Tellings
 pub mod ClassKnown
 pub mod Divided
-pub mod Again
 pub mod Readings
 pub mod FileReads
 pub mod AnswersWorked

@@ -11,8 +11,7 @@ pub mod Seeking
 pub mod Answering
 pub mod Exact
 pub use Lines.{extent_text, lines_from, lines_of}
-pub use Shown.{answer_data, answer_file, answer_line, answer_lines, answer_of, is_plain_byte, shown_byte}
-pub use Shown.{shown_file, shown_line, shown_lines}
+pub use Shown.{is_plain_byte, shown_byte, shown_line}
 pub use Words.{first_word, is_access_word, is_thread_word}
 pub use AnswerForms.{behind_byte, behind_form, behind_run, can_answer, fits_form, has_address}
 pub use AnswerForms.{has_number, has_two_numbers, is_done, is_error, is_hex_digit}

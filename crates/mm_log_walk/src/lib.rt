@@ -23,5 +23,5 @@ pub use files::{FileFault, named_bytes, named_lines};
 pub use fitting::{is_bad_text, is_long_text};
 pub use lines::Lines;
 pub use seeking::Sought;
-pub use shown::{answers_are_read_again, put_answers, put_file, put_line};
+pub use shown::put_line;
 pub use tellers::Teller;

@@ -1,9 +1,7 @@
 ghost use Rattle.std.specs.Prelude.{◌≡◌, ◌≤◌, ◌++◌, ◌∷◌, [], map, option_map, OnOk, IfOk, slice_get, slice_range, length};
 ghost use Rattle.mm_script.specs.{without_return};
 ghost use Rattle.mm_log_walk.specs.Lines.{lines_of, extent_text};
-ghost use Rattle.mm_log_walk.specs.Shown.{shown_lines, answer_lines};
 
-use crate::shown::{put_answer_lines, put_lines};
 use mm_script::without_return;
 use mm_types::NoMemory;
 use std::alloc::Global;
@@ -117,19 +115,5 @@ impl Lines {
             Some(at) => Some(extent_text(self.bytes.as_slice(), *at)),
             None => None,
         }
-    }
-
-    /// Writes the lines of a script as the page's data has them.
-    pub(crate) fn put_shown(&self, text: &mut Vec<u8>) -> Result<(), NoMemory>
-        ensures { OnOk result (text.new.items ≡ text.old.items ++ shown_lines self.now) }
-    {
-        put_lines(self.bytes.as_slice(), self.extents.as_slice(), text)
-    }
-
-    /// Writes the lines, which are answers, as the page's data has them.
-    pub(crate) fn put_answers(&self, text: &mut Vec<u8>) -> Result<(), NoMemory>
-        ensures { OnOk result (text.new.items ≡ text.old.items ++ answer_lines self.now) }
-    {
-        put_answer_lines(self.bytes.as_slice(), self.extents.as_slice(), text)
     }
 }

@@ -1,9 +1,6 @@
 ghost use Rattle.std.specs.Prelude.{◌≡◌, ◌++◌, map, take, OnOk};
-ghost use Rattle.mm_types.specs.{Text};
-ghost use Rattle.mm_log_walk.specs.{is_plain_byte, shown_byte, shown_line, shown_lines, shown_file, answer_data, answer_line, answer_lines, answer_file};
-ghost use Rattle.mm_log_walk.specs.{answer_of, extent_text};
+ghost use Rattle.mm_log_walk.specs.{is_plain_byte, shown_byte, shown_line};
 
-use crate::lines::{Extent, Lines, extent_text};
 use mm_types::NoMemory;
 
 fn is_plain(byte: u8) -> bool
@@ -42,81 +39,3 @@ pub fn put_line(line: &[u8], text: &mut Vec<u8>) -> Result<(), NoMemory>
     text.push(b'\n')?;
     Ok(())
 }
-
-/// Writes lines as the page's data has them.
-pub(crate) fn put_lines(
-    bytes: &[u8],
-    extents: &[Extent],
-    text: &mut Vec<u8>,
-) -> Result<(), NoMemory>
-    ensures { OnOk result (text.new.items ≡ text.old.items
-        ++ shown_lines (map (extent_text bytes.now) extents.now)) }
-{
-    for at in extents {
-        put_line(extent_text(bytes, *at), text)?;
-    }
-    Ok(())
-}
-
-/// Writes the lines of a script, if it is named, as the page's data has them.
-pub fn put_file(file: &Option<Lines>, text: &mut Vec<u8>) -> Result<(), NoMemory>
-    ensures { OnOk result (text.new.items ≡ text.old.items ++ shown_file file.now) }
-{
-    match file {
-        Some(lines) => lines.put_shown(text),
-        None => Ok(()),
-    }
-}
-
-/// Writes an answer's bytes without `ok` where it begins so, any other behind a tab.
-fn put_answer_data(answer: &[u8], text: &mut Vec<u8>) -> Result<(), NoMemory>
-    ensures { OnOk result (text.new.items ≡ text.old.items ++ answer_data answer.now) }
-{
-    match answer {
-        [b'o', b'k', rest @ ..] => put_bytes(rest, text),
-        _ => {
-            text.push(b'\t')?;
-            put_bytes(answer, text)
-        }
-    }
-}
-
-/// Writes an answer as the page's data has it.
-fn put_answer(answer: &[u8], text: &mut Vec<u8>) -> Result<(), NoMemory>
-    ensures { OnOk result (text.new.items ≡ text.old.items ++ answer_line answer.now) }
-{
-    put_answer_data(front(answer), text)?;
-    text.push(b'\n')?;
-    Ok(())
-}
-
-/// Writes answers as the page's data has them.
-pub(crate) fn put_answer_lines(
-    bytes: &[u8],
-    extents: &[Extent],
-    text: &mut Vec<u8>,
-) -> Result<(), NoMemory>
-    ensures { OnOk result (text.new.items ≡ text.old.items
-        ++ answer_lines (map (extent_text bytes.now) extents.now)) }
-{
-    for at in extents {
-        put_answer(extent_text(bytes, *at), text)?;
-    }
-    Ok(())
-}
-
-/// Writes the answers, if they are named, as the page's data has them.
-pub fn put_answers(answers: &Option<Lines>, text: &mut Vec<u8>) -> Result<(), NoMemory>
-    ensures { OnOk result (text.new.items ≡ text.old.items ++ answer_file answers.now) }
-{
-    match answers {
-        Some(lines) => lines.put_answers(text),
-        None => Ok(()),
-    }
-}
-
-/// From the data of an answer it can be read again, as the page shows it.
-#[tactic(auto, using(crate::proofs::Again::read_again))]
-pub fn answers_are_read_again()
-    ensures { (answer : Text) → answer_of (answer_data answer) ≡ map shown_byte answer }
-{}
