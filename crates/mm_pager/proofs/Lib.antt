@@ -41,7 +41,7 @@ pub use Flushed.{block_of_frame, changed_none, changed_written, filed_after, fli
 pub use Flushed.{flight_none, flushed_kept, flushed_passes, flushed_served, flushed_store}
 pub use Flushed.{flushing_of, frame_flushed, frame_lost, its_bytes, its_others, not_framed}
 pub use Flushed.{on_err_if, on_ok_if, page_framed, page_home, start_legal}
-pub use NewFiles.{blocks_lost, blocks_more, blocks_none, built_notes, built_served, one_written}
+pub use NewFiles.{blocks_lost, blocks_more, blocks_none, built_as, built_notes, one_written}
 pub use NewFiles.{pages_more, pages_none, unmade_notes, unmade_served}
 pub use Copies.{copied_from, copied_to, copy_given, copy_gives, copy_legal, copy_put}
 pub use Copies.{faulted_readied, held_given, made_copied, map_copy, may_copy, other_frame}

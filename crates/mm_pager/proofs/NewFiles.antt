@@ -2,22 +2,22 @@
 use Rattle.std.proofs.Common.{◌≡◌, ◌≢◌, ℕ, zero, suc, ◌+◌, ◌%◌, ◌≤◌, ◌<◌, Bool, true, false, List, [], ◌∷◌, ◌++◌, length, length-set, replicate, Option, Some, refl, sym, ap, ◌∙◌, subst, arith, inl, inr, ◌⊎◌}
 use Rattle.std.proofs.lemmas.Bool.{eqb-true}
 use Rattle.std.specs.Cmp.{unsigned_Decides}
-use Rattle.std.specs.Prelude.{◌&&◌, ◌==◌, ◌^◌, nat_lt, if◌then◌else◌, map, slice_get, slice_set}
+use Rattle.std.specs.Prelude.{◌&&◌, ◌==◌, ◌^◌, nat_lt, if◌then◌else◌, map, slice_get, slice_set, Ok}
 use Rattle.mm_types.specs.declared.devices.Direction.TheVariants as way
-use Rattle.mm_types.specs.{MakeFault, Held, Move, Area, Key}
+use Rattle.mm_types.specs.{MakeFault, Held, Move, Area, Key, limit_of}
 use Rattle.mm_types.specs.declared.faults.MakeFault.TheVariants as make_fault
 use Rattle.mm_types.specs.declared.frames.Held.TheVariants as held
 use Rattle.mm_types.specs.declared.frames.Backing.TheVariants as backing
 use Rattle.mm_types.specs.declared.moves.Move.TheVariants as move
 use Rattle.mm_types.specs.declared.numbers.Key.TheVariants.{Private, Shared}
-use Rattle.mm_types.proofs.{append_nil, same_or_not, get_set_same, get_set_other, none_below}
+use Rattle.mm_types.proofs.{append_nil, less, same_or_not, get_set_same, get_set_other, none_below}
 use Rattle.mm_devices.specs.{DeviceCall, DeviceOf, Call, AllServed, logged_call, KeepsOthers, is_next_named}
 use Rattle.mm_devices.proofs.{all_served_then, all_served_one, map-logged, later_same, later_then, serves_later, serves_failed, failed_later}
 use Rattle.mm_devices.proofs.{keeps_same, keeps_then, keeps_written}
-use Rattle.mm_move_rules.specs.{FrameLife, changed, same_key}
+use Rattle.mm_move_rules.specs.{FrameLife, changed, counts_of, same_key, wait_of}
 use Rattle.mm_world.specs.{filled}
 use Rattle.mm_store.specs.Behind.{Behind}
-use Rattle.mm_store.specs.{Turns, Makes, Notes, writes_from, Served, with_write}
+use Rattle.mm_store.specs.{Turns, Makes, NewFile, Notes, writes_from, Served, backed_by, block_at, where_of, with_blocks, with_file, with_write, wrote}
 use Rattle.mm_store.specs.Told.{Told}
 use Rattle.mm_store.proofs.{made_behind, made_wider, turned_none, tallied_then, served_nothing, served_writes}
 use Rattle.mm_state_calls.specs.{StateOf, Made, DeviceCalled, moved, written_if}
@@ -276,6 +276,93 @@ module _ (area first n byte : ℕ) (s z : StateOf) (p : FileBuilt area first n b
           slots = ap (λ (x : StateOf). x.slots) p.added.same;
         };
       })
+
+  -- the bytes, the blocks and the rest, each as the store shows it
+  built_blocks : z.blocks ≡ p.mid.blocks
+  built_blocks = ap (λ (x : StateOf). x.blocks) p.added.same
+
+  built_life : z.life ≡ record s.life { stands = z.life.stands; added = z.life.added }
+  built_life = p.added.life ∙ ap (λ (x : StateOf). record (x.life) { stands = z.life.stands; added = z.life.added }) p.wrote.tells.rest
+
+  byte_page : (a : Area) (i : ℕ) (b t : Bool) → nat_lt i n ≡ t → (if b && t then slice_get p.mid.blocks (first + i) else p.mid.contents (Shared a i)) ≡ (if b && t then Some (filled ((byte + i) % 256)) else s.contents (Shared a i))
+  byte_page a i true true e = p.wrote.written refl i (less i n e)
+  byte_page a i true false e = ap (λ (x : StateOf). x.contents (Shared a i)) p.wrote.tells.rest
+  byte_page a i false t e = ap (λ (x : StateOf). x.contents (Shared a i)) p.wrote.tells.rest
+
+  byte_key : (k : Key) → z.contents k ≡ with_file area n byte s.contents k
+  byte_key (Private q v) = p.added.contents (Private q v) ∙ ap (λ (x : StateOf). x.contents (Private q v)) p.wrote.tells.rest
+  byte_key (Shared a i) = p.added.contents (Shared a i) ∙ byte_page a i (a.0 == area) (nat_lt i n) refl
+
+  pub built_contents : z.contents ≡ with_file area n byte s.contents
+  built_contents = λ j. λ k. byte_key k j
+
+  held_block : (a : Area) (i : ℕ) (b : Bool) → block_at (backed_by s.life (if b then held.Block (record { 0 = first + i }) else p.mid.life.stands (Shared a i))) ≡ (if b then Some (first + i) else block_at (backed_by s.life (s.life.stands (Shared a i))))
+  held_block a i true = refl
+  held_block a i false = ap (λ (x : StateOf). block_at (backed_by s.life (x.life.stands (Shared a i)))) p.wrote.tells.rest
+
+  block_key : (k : Key) → block_at (backed_by z.life (z.life.stands k)) ≡ with_blocks area n first (λ j. block_at (backed_by s.life (s.life.stands j))) k
+  block_key (Private q v) = ap (λ (x : FrameLife). block_at (backed_by x (z.life.stands (Private q v)))) built_life
+      ∙ ap (λ (h : Held). block_at (backed_by s.life h)) (p.added.stands (Private q v) ∙ ap (λ (x : StateOf). x.life.stands (Private q v)) p.wrote.tells.rest)
+  block_key (Shared a i) = ap (λ (x : FrameLife). block_at (backed_by x (z.life.stands (Shared a i)))) built_life
+      ∙ ap (λ (h : Held). block_at (backed_by s.life h)) (p.added.stands (Shared a i)) ∙ held_block a i ((a.0 == area) && nat_lt i n)
+
+  built_waits : z.waits ≡ s.waits
+  built_waits = p.added.waits ∙ ap (λ (x : StateOf). x.waits) p.wrote.tells.rest
+
+  pub built_store : (o : OwnOf) → store_of z (record o { blocks_used = o.blocks_used + n }) ≡ record (wrote (store_of s o) (store_of z (record o { blocks_used = o.blocks_used + n }))) {
+    areas = changed ◌==◌ s.areas area (Some n);
+    block_of = with_blocks area n first (λ k. block_at (backed_by s.life (s.life.stands k)));
+    blocks_used = o.blocks_used + n;
+  }
+  built_store o = λ i. record {
+    machine = (built_life i).machine;
+    is_open = built_still (λ x. x.is_open) refl refl i;
+    areas = built_still (λ x. x.areas) refl refl i;
+    bound = built_still (λ x. x.bound) refl refl i;
+    names = built_still (λ x. x.names) refl refl i;
+    paging = (built_life i).paging;
+    paging_keys = (built_life i).paging_keys;
+    room = limit_of ((built_life i).machine);
+    block_of = λ k. block_key k i;
+    blocks_used = o.blocks_used + n;
+    file_blocks = z.blocks;
+    line = (built_life i).line;
+    kind = (built_life i).kind;
+    last_pid = length ((built_life i).sets);
+    ready = o.ready;
+    report = record {
+      paging_reads = (built_told i).paging_reads;
+      paging_writes = (built_told i).paging_writes;
+      file_reads = (built_told i).file_reads;
+      file_writes = z.told.file_writes;
+      last_failed_read = (built_told i).last_failed_read;
+      search_writes = z.told.search_writes;
+      counts = counts_of z.life;
+      whereabouts = λ k. where_of z.life (z.life.stands k);
+      wait = λ tid. wait_of (built_waits i tid);
+      extended = o.extended;
+    };
+    paging_device = built_still (λ x. x.paging) refl refl i;
+    file_device = z.files;
+  }
+
+  pub built_as : (o : OwnOf) → NewFile area first n byte s.contents z.contents (store_of s o) (store_of z (record o { blocks_used = o.blocks_used + n })) (Ok tt)
+  built_as o = record {
+    made = built_contents;
+    kept = tt;
+    ok = built_store o;
+    err = tt;
+    memory = λ e. cc;
+    written = λ i h. ap (λ (bs : List (List ℕ)). slice_get bs (first + i)) built_blocks ∙ p.wrote.written refl i h;
+    others = λ b h. ap (λ (bs : List (List ℕ)). slice_get bs b) built_blocks ∙ p.wrote.others b h;
+    wrote = record {
+      served = built_served o (record o { blocks_used = o.blocks_used + n });
+      stored = ap (λ (bs : List (List ℕ)). length bs) built_blocks ∙ p.wrote.long;
+      quiet = ap (λ (t : Told). t.file_writes.failed) p.added.told ∙ p.wrote.quiet refl;
+      failed = λ e. cc;
+      blamed = λ e. cc;
+    };
+  }
 
 -- ---- what it shows where no file was made
 

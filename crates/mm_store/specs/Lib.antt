@@ -11,6 +11,7 @@ pub mod Flushing
 pub mod Housekeeping
 pub mod Standing
 pub mod Passing
+pub mod Methods
 pub use Tallies.{one_more, tallied, with_call, with_outcome}
 pub use Store.{Ready, StoreOf, changed_in, is_place_in, kind_of_machine, own_key}
 pub use Store.{unnamed, with_blocks, with_file}
@@ -40,6 +41,8 @@ pub use Housekeeping.{numbers_made, rank_gone, ranks_gone, with_some}
 pub use Standing.{PagingStands, StandsIn, backed_by, block_at, bytes_on_devices, framed_where, in_backing}
 pub use Standing.{is_on_device, stored_of, where_of}
 pub use Passing.{FileMade, Notes, NotesIn, Passes, PassesIn, WritesFile, last_write, writes_from}
+pub use Methods.{AccessAnswered, Accessed, Begins, BlockFlushed, MayMakeFile, NewFile, PageCopied}
+pub use Methods.{PagingGrown, RequestEnded, UsableAt, WroteBlocks}
 pub use declared.outcomes.Done.{Done}
 pub use declared.outcomes.Need.{Need}
 pub use declared.outcomes.Start.{Start}

@@ -1,29 +1,23 @@
-ghost use Rattle.std.specs.Prelude.{◌≡◌, ◌≢◌, ◌≤◌, ◌<◌, ◌+◌, [], ◌∷◌, ◌-◌, ◌%◌, ◌^◌, ◌==◌, ◌⊎◌, ℕ, Bool, true, false, Option, Some, None, List, IsSome, IsErrOf, IsOk, is_ok, OnOk, OnErr, IfOk, length, slice_get, take, drop, unwrap_or};
-ghost use Rattle.mm_types.specs.declared.faults.GrowFault.TheVariants as grow_fault;
-ghost use Rattle.mm_types.specs.declared.faults.MakeFault.TheVariants as make_fault;
+ghost use Rattle.std.specs.Prelude.{◌≡◌, ◌≤◌, ◌<◌, ◌+◌, ◌-◌, ◌^◌, ◌==◌, ℕ, Bool, true, false, Option, Some, None, IsSome, IsOk, is_ok, OnOk, OnErr, length, take, drop, unwrap_or};
 ghost use Rattle.mm_types.specs.declared.devices.Device.TheVariants as device_of;
 ghost use Rattle.mm_types.specs.declared.moves.LineKind.TheVariants as kind;
-ghost use Rattle.mm_types.specs.{Key, Place, are_user_pages, limit_of, Loans, Rose, Why};
+ghost use Rattle.mm_types.specs.{Key, Place, are_user_pages, limit_of, Loans, Why};
 ghost use Rattle.mm_types.specs.declared.numbers.Key.TheVariants.{Private, Shared};
-ghost use Rattle.mm_devices.specs.{CallFailed};
-ghost use Rattle.mm_world.specs.{Page, filled, written, same_key, with_slots, most_slots, is_failed_extension, pending, BeingRead, failed_calls};
+ghost use Rattle.mm_world.specs.{Page, filled, written, same_key, most_slots, pending};
 ghost use Rattle.mm_types.specs.declared.moves.Move.TheVariants as move;
-ghost use Rattle.mm_types.specs.declared.answers.Why.TheVariants as why_of;
 ghost use Rattle.mm_types.specs.declared.answers.Wait.TheVariants as wait_of;
 ghost use Rattle.mm_store.specs.declared.outcomes.Need.TheVariants as wanted;
-ghost use Rattle.mm_store.specs.declared.outcomes.Start.TheVariants as start_of;
-ghost use Rattle.mm_store.specs.declared.outcomes.Done.TheVariants as done;
 ghost use Rattle.mm_store.specs.Behind.{Behind};
 ghost use Rattle.mm_store.specs.Standing.{StandsIn};
+ghost use Rattle.mm_store.specs.Methods.{UsableAt, Accessed, PageCopied, BlockFlushed, MayMakeFile, NewFile, Begins, RequestEnded, PagingGrown};
 ghost use Rattle.mm_store.specs.Passing.{PassesIn, NotesIn, FileMade};
-ghost use Rattle.mm_store.specs.Accesses.{Touches, Copies, Starts, Forgets};
+ghost use Rattle.mm_store.specs.Accesses.{Copies, Starts, Forgets};
 ghost use Rattle.mm_store.specs.Housekeeping.{Turn, Makes, MakesFrom, key_number, Ends as Ending, Turns, OneMove, Trims, AgesAll, Clears, WritesOut, CompletesAs, GrowsAs, FlushesPage};
 ghost use Rattle.mm_store.specs.Leaving.{Leaving};
-ghost use Rattle.mm_store.specs.Store.{StoreOf, changed_in, unnamed, own_key, with_file, with_blocks};
-ghost use Rattle.mm_move_rules.specs.{same_place};
+ghost use Rattle.mm_store.specs.Store.{StoreOf, changed_in, unnamed, own_key};
 ghost use Rattle.mm_move_rules.specs.{changed};
-ghost use Rattle.mm_store.specs.Reports.{begun, rearranged, eased, called, with_named, with_named_paging, fetched, wrote, started, completed, IsBegun, Served, SomeFailed, HasCauses, Ends};
-ghost use Rattle.mm_store.specs.Conditions.{IsLineKind, pid_after, AllBound, MayUnbind, HasHome, MayRemove, IsAt, MayAccess, IsReady, MayName, touch, copying, place_at, need_for, waits_at_once, wait_after, AreAmong, IsAmong};
+ghost use Rattle.mm_store.specs.Reports.{begun, rearranged, called, with_named, with_named_paging};
+ghost use Rattle.mm_store.specs.Conditions.{IsLineKind, pid_after, AllBound, MayUnbind, HasHome, MayRemove, IsAt, MayName, touch, copying, place_at, need_for, AreAmong, IsAmong};
 
 use crate::outcomes::{Done, Need, Start};
 use mm_types::{
@@ -191,37 +185,9 @@ pub trait PageStore {
     /// to the first write that fails: then there is no file, and no block is used. After `Memory`
     /// no device was called.
     fn make_file(&mut self, area: Area, first: Block, n: u32, byte: u8) -> Result<(), MakeFault>
-        requires new { (store self.old).areas area.0 ≡ None }
-        requires few { area.0 < 2 ^ 28 }
-        requires next { first.0 ≡ (store self.old).blocks_used }
-        requires some { 1 ≤ n }
-        requires room { first.0 + n ≤ (store self.old).machine.blocks }
-        requires kind { (store self.old).kind ≡ kind.Call }
-        ensures made { OnOk result
-            (contents self.new ≡ with_file area.0 n byte (contents self.old)) }
-        ensures kept { OnErr result (contents self.new ≡ contents self.old) }
-        ensures ok { OnOk result (store self.new ≡
-            record (wrote (store self.old) (store self.new)) {
-              areas = changed ◌==◌ (store self.old).areas area.0 (Some n);
-              block_of = with_blocks area.0 n first.0 (store self.old).block_of;
-              blocks_used = (store self.old).blocks_used + n;
-            }) }
-        ensures err { OnErr result (store self.new ≡ wrote (store self.old) (store self.new)) }
-        ensures memory { IsErrOf result make_fault.Memory → store self.new ≡ store self.old }
-        ensures written { OnOk result ((i : ℕ) → i < n →
-            slice_get (store self.new).file_blocks (first.0 + i)
-            ≡ Some (filled ((byte + i) % 256))) }
-        ensures others { (block : ℕ) → (block < first.0) ⊎ (first.0 + n ≤ block) →
-            slice_get (store self.new).file_blocks block ≡
-            slice_get (store self.old).file_blocks block }
-        ensures served { Served (store self.old) (store self.new) }
-        ensures stored { length (store self.new).file_blocks ≡ length (store self.old).file_blocks }
-        ensures quiet { OnOk result ((store self.new).report.file_writes.failed ≡
-            (store self.old).report.file_writes.failed) }
-        ensures failed { IsErrOf result make_fault.Write →
-            0 < (store self.new).report.file_writes.failed }
-        ensures blamed { IsErrOf result make_fault.Write →
-            CallFailed (store self.old).file_device (store self.new).file_device }
+        requires may { MayMakeFile (store self.old) area.0 first.0 n }
+        ensures done { NewFile area.0 first.0 n byte (contents self.old) (contents self.new)
+            (store self.old) (store self.new) result }
         ensures notes { NotesIn unpaged (Turns Makes) (behind self.old) (behind self.new) }
         ensures file { unpaged ≡ false →
             FileMade first.0 n result (store self.old) (store self.new) }
@@ -266,114 +232,44 @@ pub trait PageStore {
     /// place then names it. Why it fails stands in `fault`: only as paging fails, in an unpaged
     /// store never.
     fn read(&mut self, place: Place, key: Key, off: u16, out: &mut [u8]) -> Result<(), PageFault>
-        requires at { IsAt (contents self.old) (store self.old) place key }
+        requires may { UsableAt (contents self.old) (store self.old) place key (touch key) }
         requires few { length out.old ≤ 64 }
         requires inside { off + length out.old ≤ 4096 }
-        requires kind { MayAccess (store self.old) place (touch key) }
         ensures length { length out.new ≡ length out.old }
         ensures bytes { OnOk result (out.new ≡
             take (length out.old) (drop off (unwrap_or (contents self.old key) (filled 0)))) }
         ensures contents { contents self.new ≡ contents self.old }
-        ensures ok { OnOk result (store self.new ≡
-            record (fetched (store self.old) (store self.new)) {
-              names =
-                  changed same_place (store self.old).names place (Some key);
-            }) }
-        ensures err { OnErr result (store self.new ≡ fetched (store self.old) (store self.new)) }
-        ensures served { Served (store self.old) (store self.new) }
-        ensures stored { length (store self.new).file_blocks ≡ length (store self.old).file_blocks }
-        ensures fault { IsBegun (store self.old).report →
-            Ends (touch key) (store self.new).report result }
-        ensures causes { HasCauses (touch key) (store self.new).report result }
-        ensures blamed { OnErr result (SomeFailed (store self.old) (store self.new)) }
-        ensures ready { IsReady (store self.old) place (touch key) → IsOk result }
-        ensures eased { IsReady (store self.old) place (touch key) →
-            (store self.new).report ≡ eased (store self.old).report (store self.new).report }
-        ensures unpaged { unpaged ≡ true → IsOk result }
-        ensures passes { PassesIn unpaged (Touches (record {
-          place = place;
-          need = touch key;
-          writes = false;
-          start = (behind self.old).life;
-        }) (IsReady (store self.old) place (touch key)) result) (store self.old) (store self.new)
-            (behind self.old) (behind self.new) }
+        ensures done { Accessed unpaged place key false (store self.old) (store self.new)
+            (behind self.old) (behind self.new) result }
         ensures loans { loans self.new ≡ loans self.old };
 
     /// Writes up to 64 bytes of a key's page from `off` on, as `read`. Only that key's bytes
     /// change, and only after Ok.
     fn write(&mut self, place: Place, key: Key, off: u16, bytes: &[u8]) -> Result<(), PageFault>
-        requires at { IsAt (contents self.old) (store self.old) place key }
+        requires may { UsableAt (contents self.old) (store self.old) place key (touch key) }
         requires few { length bytes.now ≤ 64 }
         requires inside { off + length bytes.now ≤ 4096 }
-        requires kind { MayAccess (store self.old) place (touch key) }
         ensures written { OnOk result (contents self.new ≡ changed same_key (contents self.old) key
             (Some (written (unwrap_or (contents self.old key) (filled 0)) off bytes.now))) }
         ensures kept { OnErr result (contents self.new ≡ contents self.old) }
-        ensures ok { OnOk result (store self.new ≡
-            record (fetched (store self.old) (store self.new)) {
-              names =
-                  changed same_place (store self.old).names place (Some key);
-            }) }
-        ensures err { OnErr result (store self.new ≡ fetched (store self.old) (store self.new)) }
-        ensures served { Served (store self.old) (store self.new) }
-        ensures stored { length (store self.new).file_blocks ≡ length (store self.old).file_blocks }
-        ensures fault { IsBegun (store self.old).report →
-            Ends (touch key) (store self.new).report result }
-        ensures causes { HasCauses (touch key) (store self.new).report result }
-        ensures blamed { OnErr result (SomeFailed (store self.old) (store self.new)) }
-        ensures ready { IsReady (store self.old) place (touch key) → IsOk result }
-        ensures eased { IsReady (store self.old) place (touch key) →
-            (store self.new).report ≡ eased (store self.old).report (store self.new).report }
-        ensures unpaged { unpaged ≡ true → IsOk result }
-        ensures passes { PassesIn unpaged (Touches (record {
-          place = place;
-          need = touch key;
-          writes = true;
-          start = (behind self.old).life;
-        }) (IsReady (store self.old) place (touch key)) result) (store self.old) (store self.new)
-            (behind self.old) (behind self.new) }
+        ensures done { Accessed unpaged place key true (store self.old) (store self.new)
+            (behind self.old) (behind self.new) result }
         ensures loans { loans self.new ≡ loans self.old };
 
     /// Copies a page to the key that is the place's own, which comes to be; the place then names
     /// it, and it is ready. There is room for it. It fails as a read of `from` does, or because no
     /// frame could be had; the place may then name `from`.
     fn copy(&mut self, place: Place, from: Key, to: Key) -> Result<(), PageFault>
-        requires at { IsAt (contents self.old) (store self.old) place from }
+        requires may { UsableAt (contents self.old) (store self.old) place from
+            (copying from place) }
         requires own { to ≡ own_key place }
         requires dead { contents self.old to ≡ None }
         requires room { (store self.old).paging_keys < (store self.old).room }
-        requires kind { MayAccess (store self.old) place (copying from place) }
         ensures copied { OnOk result (contents self.new ≡ changed same_key (contents self.old) to
             (contents self.old from)) }
         ensures kept { OnErr result (contents self.new ≡ contents self.old) }
-        ensures ok { OnOk result (store self.new ≡
-            record (fetched (store self.old) (store self.new)) {
-              names = changed same_place (store self.old).names place (Some to);
-              paging = changed same_key (store self.old).paging to true;
-              paging_keys = (store self.old).paging_keys + 1;
-            }) }
-        ensures err { OnErr result
-            (store self.new ≡
-            record (fetched (store self.old) (store self.new)) { names = (store self.new).names }) }
-        ensures names { OnErr result (((store self.new).names ≡ (store self.old).names) ⊎
-            ((store self.new).names
-            ≡ changed same_place (store self.old).names place (Some from))) }
-        ensures served { Served (store self.old) (store self.new) }
-        ensures stored { length (store self.new).file_blocks ≡ length (store self.old).file_blocks }
-        ensures fault { IsBegun (store self.old).report →
-            Ends (copying from place) (store self.new).report result }
-        ensures causes { HasCauses (copying from place) (store self.new).report result }
-        ensures blamed { OnErr result (SomeFailed (store self.old) (store self.new)) }
-        ensures was_ready { IsReady (store self.old) place (copying from place) → IsOk result }
-        ensures ready { OnOk result (IsReady (store self.new) place (touch to)) }
-        ensures unpaged { unpaged ≡ true → IsOk result }
-        ensures passes { PassesIn unpaged (Copies (record {
-          place = place;
-          need = copying from place;
-          writes = true;
-          start = (behind self.old).life;
-        }) (IsReady (store self.old) place (copying from place)) result) (store self.old)
-            (store self.new) (behind self.old) (behind self.new) }
+        ensures done { PageCopied unpaged place from to (store self.old) (store self.new)
+            (behind self.old) (behind self.new) result }
         ensures loans { loans self.new ≡ loans self.old };
 
     /// Sees that the block of a live file key holds its bytes: writes it where it does not. No
@@ -381,20 +277,8 @@ pub trait PageStore {
     fn flush(&mut self, key: Key) -> Result<(), WriteFault>
         requires live { IsSome ((store self.old).block_of key) }
         requires kind { (store self.old).kind ≡ kind.Call }
-        ensures store { store self.new ≡ wrote (store self.old) (store self.new) }
-        ensures ok { OnOk result ((block : ℕ) → (store self.old).block_of key ≡ Some block →
-            slice_get (store self.new).file_blocks block ≡ contents self.old key) }
-        ensures others { (block other : ℕ) → (store self.old).block_of key ≡ Some block →
-            other ≢ block →
-            slice_get (store self.new).file_blocks other ≡
-            slice_get (store self.old).file_blocks other }
-        ensures served { Served (store self.old) (store self.new) }
-        ensures stored { length (store self.new).file_blocks ≡ length (store self.old).file_blocks }
-        ensures quiet { OnOk result ((store self.new).report.file_writes.failed ≡
-            (store self.old).report.file_writes.failed) }
-        ensures failed { OnErr result (0 < (store self.new).report.file_writes.failed) }
-        ensures blamed { OnErr result
-            (CallFailed (store self.old).file_device (store self.new).file_device) }
+        ensures done { BlockFlushed key (contents self.old key) (store self.old) (store self.new)
+            result }
         ensures contents { contents self.new ≡ contents self.old }
         ensures passes { PassesIn unpaged (FlushesPage key (is_ok result)) (store self.old)
             (store self.new) (behind self.old) (behind self.new) }
@@ -477,34 +361,7 @@ pub trait PageStore {
         requires some { 1 ≤ n }
         requires most { (store self.old).machine.slots + n ≤ most_slots }
         ensures contents { contents self.new ≡ contents self.old }
-        ensures ok { OnOk result (store self.new ≡ record (store self.old) {
-          machine = with_slots (store self.old).machine n;
-          room = (store self.new).room;
-          line = line;
-          kind = kind.Grow n;
-          ready = None;
-          report = record (begun (store self.old).report) {
-            counts = (store self.new).report.counts;
-            extended = (store self.new).report.extended;
-          };
-        }) }
-        ensures extended { OnOk result (is_failed_extension (store self.new).report.extended ≡
-            false) }
-        ensures later { (store self.old).room ≤ (store self.new).room }
-        ensures failed { IsErrOf result grow_fault.Failed →
-            store self.new ≡ record (store self.old) {
-              line = line;
-              kind = kind.Call;
-              ready = None;
-              report = record (begun (store self.old).report) { extended = Some false };
-              paging_device = called (store self.old).paging_device (store self.new).paging_device;
-            } }
-        ensures memory { IsErrOf result grow_fault.Memory → store self.new ≡ store self.old }
-        ensures faults { (store self.old).paging_device.faults ≤
-            (store self.new).paging_device.faults }
-        ensures cause { IsErrOf result grow_fault.Failed →
-            Rose (store self.old).paging_device.faults (store self.new).paging_device.faults }
-        ensures unpaged { unpaged ≡ true → IsErrOf result grow_fault.Failed → ⊥ }
+        ensures done { PagingGrown unpaged line n (store self.old) (store self.new) result }
         ensures notes { NotesIn unpaged (GrowsAs line n result)
             (behind self.old) (behind self.new) }
         ensures loans { loans self.new ≡ loans self.old };
@@ -517,21 +374,8 @@ pub trait PageStore {
         requires dead { need ≡ wanted.Copy → contents self.old (own_key place) ≡ None }
         requires kind { (store self.old).kind ≡ kind.Thread place.pid }
         ensures contents { contents self.new ≡ contents self.old }
-        ensures store { store self.new ≡ started (store self.old) (store self.new) }
-        ensures names { ((store self.new).names ≡ (store self.old).names) ⊎
-            ((store self.new).names ≡ changed same_place (store self.old).names place (Some key)) }
-        ensures ready { result ≡ start_of.Ready →
-            IsReady (store self.new) place (need_for need key place) }
-        ensures at_once { result ≡ start_of.Ready →
-            waits_at_once (store self.old).machine.depth key (store self.old).report ≡ None }
-        ensures pending { (why : Why) → result ≡ start_of.Pending why →
-            pending (store self.old).machine.depth (need_for need key place) (store self.old).report
-            (store self.new).report ≡ Some why }
-        ensures awaited { result ≡ start_of.Pending why_of.Read →
-            (store self.new).report.whereabouts key ≡ Some BeingRead }
-        ensures wait { (store self.new).report.wait ≡ changed ◌==◌ (store self.old).report.wait
-            tid.0 (wait_after result) }
-        ensures unpaged { unpaged ≡ true → result ≡ start_of.Ready }
+        ensures done { Begins unpaged tid.0 place key (need_for need key place) (store self.old)
+            (store self.new) result }
         ensures passes { (writes : Bool) → PassesIn unpaged (Starts (record {
           place = place;
           need = need_for need key place;
@@ -574,16 +418,7 @@ pub trait PageStore {
         requires some { 1 ≤ i }
         requires kind { (store self.old).kind ≡ kind.Io }
         ensures contents { contents self.new ≡ contents self.old }
-        ensures store { store self.new ≡ completed (store self.old) (store self.new) }
-        ensures none { result ≡ done.None → ((store self.old).report.counts.requests < i) ×
-            (store self.new ≡ store self.old) }
-        ensures some { (store self.old).report.counts.requests < i → result ≡ done.None }
-        ensures ok { result ≡ done.Ok →
-            failed_calls (store self.new).report ≡ failed_calls (store self.old).report }
-        ensures failed { result ≡ done.Failed → 0 < failed_calls (store self.new).report }
-        ensures blamed { result ≡ done.Failed → SomeFailed (store self.old) (store self.new) }
-        ensures served { Served (store self.old) (store self.new) }
-        ensures stored { length (store self.new).file_blocks ≡ length (store self.old).file_blocks }
+        ensures done { RequestEnded i (store self.old) (store self.new) result }
         ensures passes { PassesIn unpaged (CompletesAs i result) (store self.old) (store self.new)
             (behind self.old) (behind self.new) }
         ensures loans { loans self.new ≡ loans self.old };

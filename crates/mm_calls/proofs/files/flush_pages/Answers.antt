@@ -16,7 +16,7 @@ loop-i-init g c =
 pub returns-in_err-flush-clause-flushes : goal.returns-in_err-flush-clause-flushes
 returns-in_err-flush-clause-flushes g c = record {
   store = search rules;
-  served = served_then (g.G.PageStore.store c.args.g.now) (g.G.PageStore.store c.loop-i.g) (g.G.PageStore.store c.flush.new.self) c.loop-i.invariant.flushed.served c.in_err-flush.ensures.served;
+  served = served_then (g.G.PageStore.store c.args.g.now) (g.G.PageStore.store c.loop-i.g) (g.G.PageStore.store c.flush.new.self) c.loop-i.invariant.flushed.served c.in_err-flush.ensures.done.wrote.served;
   stored = search rules;
   contents = search rules;
   loans = search rules;
@@ -27,7 +27,7 @@ returns-in_err-flush-clause-broke g c =
     on_err c.from_residual.result
     (record {
       failed = search rules;
-      blamed = blamed_since (g.G.PageStore.store c.args.g.now) (g.G.PageStore.store c.loop-i.g) (g.G.PageStore.store c.flush.new.self) c.loop-i.invariant.flushed.served c.in_err-flush.ensures.blamed;
+      blamed = blamed_since (g.G.PageStore.store c.args.g.now) (g.G.PageStore.store c.loop-i.g) (g.G.PageStore.store c.flush.new.self) c.loop-i.invariant.flushed.served c.in_err-flush.ensures.done.wrote.blamed;
     })
 
 pub loop-i-preserved : goal.loop-i-preserved
@@ -36,7 +36,7 @@ loop-i-preserved g c =
     record {
       flushed = flushed_more (g.G.PageStore.contents c.args.g.now) (g.G.PageStore.contents c.loop-i.g) (g.G.PageStore.contents c.flush.new.self) (g.G.PageStore.store c.args.g.now) (g.G.PageStore.store c.loop-i.g) (g.G.PageStore.store c.flush.new.self)
           c.args.area.0 c.args.first c.loop-i.i c.args.count c.args.block.0 c.loop-i.invariant.flushed c.requires.blocks c.loop-i-test.true
-          (record { store = e.store; contents = e.contents; holds = e.ok; others = e.others; served = e.served; stored = e.stored; quiet = e.quiet });
+          (record { store = e.done.store; contents = e.contents; holds = e.done.ok; others = e.done.others; served = e.done.wrote.served; stored = e.done.wrote.stored; quiet = e.done.wrote.quiet });
       passes = loop_more g.G.PageStore.unpaged c.args.area.0 c.args.first c.loop-i.i (g.G.PageStore.store c.args.g.now) (g.G.PageStore.store c.loop-i.g) (g.G.PageStore.store c.flush.new.self)
           (g.G.PageStore.behind c.args.g.now) (g.G.PageStore.behind c.loop-i.g) (g.G.PageStore.behind c.flush.new.self) c.loop-i.invariant.passes e.passes;
       loans = e.loans ∙ c.loop-i.invariant.loans;

@@ -33,13 +33,13 @@ returns-in-Err-clause-copied g c =
     let at : key_at t c.place_of.result ≡ Some c.args.row.key =
     ap (key_at t) c.place_of.ensures ∙ key-row t c.args.pid (page_of c.args.addr) h.process h.row h.lives h.committed ∙ ap (λ (r : CommittedRow). Some r.key) h.is_told in
     record {
-      fits = fits_uncopied t _ _ _ _ c.place_of.result c.args.row.key c.requires.can.fits at c.copy.ensures.served c.copy.ensures.stored c.in-Err.ensures.kept c.in-Err.ensures.err c.in-Err.ensures.names;
-      line = ap (λ (x : StoreOf). x.line) c.in-Err.ensures.err;
-      served = c.copy.ensures.served;
-      blamed = c.in-Err.ensures.blamed;
-      was_ready = subst (λ (q : Place). IsReady (g.G.PageStore.store c.args.g.now) q (copying c.args.row.key q) → false ≡ true) c.place_of.ensures c.in-Err.ensures.was_ready;
-      unpaged = c.in-Err.ensures.unpaged;
-      passes = copies c.args.row.key g.G.PageStore.unpaged (Err c.in-Err.fault) (g.G.PageStore.store c.args.g.now) (g.G.PageStore.store c.copy.new.self) (g.G.PageStore.behind c.args.g.now) (g.G.PageStore.behind c.copy.new.self) c.place_of.ensures c.in-Err.ensures.passes;
+      fits = fits_uncopied t _ _ _ _ c.place_of.result c.args.row.key c.requires.can.fits at c.copy.ensures.done.answered.served c.copy.ensures.done.answered.stored c.in-Err.ensures.kept c.in-Err.ensures.done.err c.in-Err.ensures.done.names;
+      line = ap (λ (x : StoreOf). x.line) c.in-Err.ensures.done.err;
+      served = c.copy.ensures.done.answered.served;
+      blamed = c.in-Err.ensures.done.answered.blamed;
+      was_ready = subst (λ (q : Place). IsReady (g.G.PageStore.store c.args.g.now) q (copying c.args.row.key q) → false ≡ true) c.place_of.ensures c.in-Err.ensures.done.answered.was_ready;
+      unpaged = c.in-Err.ensures.done.answered.unpaged;
+      passes = copies c.args.row.key g.G.PageStore.unpaged (Err c.in-Err.fault) (g.G.PageStore.store c.args.g.now) (g.G.PageStore.store c.copy.new.self) (g.G.PageStore.behind c.args.g.now) (g.G.PageStore.behind c.copy.new.self) c.place_of.ensures c.in-Err.ensures.done.passes;
       loans = c.copy.ensures.loans;
     }
 
@@ -59,17 +59,17 @@ returns-in-Ok-clause-copied g c =
     let contents : g.G.PageStore.contents c.copy.new.self ≡ changed same_key old own (Some from.0) =
     c.in-Ok.ensures.copied ∙ (λ i. changed same_key old (c.own_key_of.ensures i) (from.1 i)) in
     let store : z ≡ record (fetched s z) { names = changed same_place s.names place (Some own); paging = changed same_key s.paging own true; paging_keys = s.paging_keys + 1 } =
-    c.in-Ok.ensures.ok
+    c.in-Ok.ensures.done.ok
     ∙ (λ i. record (fetched s z) { names = changed same_place s.names (c.place_of.ensures i) (Some (c.own_key_of.ensures i)); paging = changed same_key s.paging (c.own_key_of.ensures i) true; paging_keys = s.paging_keys + 1 }) in
     record {
       fits = subst (λ (n : Key → Option Page). FitsTables c.copy_page.new.self n z) (sym contents)
-          (fits_copied c.copy_page.new.self (changed same_key old own (Some from.0)) s z place (c.copy_page.ensures.fits old s from.0 c.requires.can.fits) c.copy.ensures.served c.copy.ensures.stored store);
-      line = ap (λ (x : StoreOf). x.line) c.in-Ok.ensures.ok;
-      served = c.copy.ensures.served;
+          (fits_copied c.copy_page.new.self (changed same_key old own (Some from.0)) s z place (c.copy_page.ensures.fits old s from.0 c.requires.can.fits) c.copy.ensures.done.answered.served c.copy.ensures.done.answered.stored store);
+      line = ap (λ (x : StoreOf). x.line) c.in-Ok.ensures.done.ok;
+      served = c.copy.ensures.done.answered.served;
       blamed = tt;
-      was_ready = subst (λ (q : Place). IsReady s q (copying c.args.row.key q) → true ≡ true) c.place_of.ensures c.in-Ok.ensures.was_ready;
-      unpaged = c.in-Ok.ensures.unpaged;
-      passes = copies c.args.row.key g.G.PageStore.unpaged (Ok tt) s z (g.G.PageStore.behind c.args.g.now) (g.G.PageStore.behind c.copy.new.self) c.place_of.ensures c.in-Ok.ensures.passes;
+      was_ready = subst (λ (q : Place). IsReady s q (copying c.args.row.key q) → true ≡ true) c.place_of.ensures c.in-Ok.ensures.done.answered.was_ready;
+      unpaged = c.in-Ok.ensures.done.answered.unpaged;
+      passes = copies c.args.row.key g.G.PageStore.unpaged (Ok tt) s z (g.G.PageStore.behind c.args.g.now) (g.G.PageStore.behind c.copy.new.self) c.place_of.ensures c.in-Ok.ensures.done.passes;
       loans = c.copy.ensures.loans;
     }
 
@@ -81,8 +81,8 @@ returns-in-Ok-clause-own g c =
     let own = private_key c.args.pid.0 page in
     record {
       at = at-named c.copy_page.new.self _ (g.G.PageStore.store c.copy.new.self) (returns-in-Ok-clause-copied g c).fits place own
-          (ap (λ (s : StoreOf). s.names place) c.in-Ok.ensures.ok
+          (ap (λ (s : StoreOf). s.names place) c.in-Ok.ensures.done.ok
           ∙ (λ i. changed same_place s.names (c.place_of.ensures i) (Some (c.own_key_of.ensures i)) place)
           ∙ ap (λ b. cond b (Some own) (s.names place)) (place_itself place));
-      ready = subst (λ (k : Key). IsReady (g.G.PageStore.store c.copy.new.self) place (touch k)) c.own_key_of.ensures (subst (λ (q : Place). IsReady (g.G.PageStore.store c.copy.new.self) q (touch c.own_key_of.result)) c.place_of.ensures c.in-Ok.ensures.ready);
+      ready = subst (λ (k : Key). IsReady (g.G.PageStore.store c.copy.new.self) place (touch k)) c.own_key_of.ensures (subst (λ (q : Place). IsReady (g.G.PageStore.store c.copy.new.self) q (touch c.own_key_of.result)) c.place_of.ensures c.in-Ok.ensures.done.ready);
     }

@@ -87,21 +87,21 @@ pub returns-in-None : goal.returns-in-None
 returns-in-None g c =
     let call = c.complete.ensures in
     answered g.G.PageStore c.in-Io.is
-    (io-none g.G.PageStore c.complete.new.self c.requires.can.next c.begin-in-Io.ensures.starts call.contents refl c.in-Io.index call.served call.stored call.store (call.none c.in-None.is).0 c.in-None.ensures.passes) tt (λ paged. (tt, tt)) (call.loans ∙ c.begin-in-Io.ensures.starts.loans)
+    (io-none g.G.PageStore c.complete.new.self c.requires.can.next c.begin-in-Io.ensures.starts call.contents refl c.in-Io.index call.done.served call.done.stored call.done.store (call.done.none c.in-None.is).0 c.in-None.ensures.passes) tt (λ paged. (tt, tt)) (call.loans ∙ c.begin-in-Io.ensures.starts.loans)
 
 pub returns-in-Ok : goal.returns-in-Ok
 returns-in-Ok g c =
     let call = c.complete.ensures in
     answered g.G.PageStore c.in-Io.is
-    (io-ok g.G.PageStore c.complete.new.self c.requires.can.next c.begin-in-Io.ensures.starts call.contents refl c.in-Io.index call.served call.stored call.store
-    (λ few. let bad : ended.Ok ≡ ended.None = sym c.in-Ok.is ∙ call.some few in cc) (call.ok c.in-Ok.is) c.in-Ok.ensures.passes) tt (λ paged. (tt, tt)) (call.loans ∙ c.begin-in-Io.ensures.starts.loans)
+    (io-ok g.G.PageStore c.complete.new.self c.requires.can.next c.begin-in-Io.ensures.starts call.contents refl c.in-Io.index call.done.served call.done.stored call.done.store
+    (λ few. let bad : ended.Ok ≡ ended.None = sym c.in-Ok.is ∙ call.done.some few in cc) (call.done.ok c.in-Ok.is) c.in-Ok.ensures.passes) tt (λ paged. (tt, tt)) (call.loans ∙ c.begin-in-Io.ensures.starts.loans)
 
 pub returns-in-Failed : goal.returns-in-Failed
 returns-in-Failed g c =
     let call = c.complete.ensures in
     answered g.G.PageStore c.in-Io.is
-    (io-failed g.G.PageStore c.complete.new.self c.requires.can.next c.begin-in-Io.ensures.starts call.contents refl c.in-Io.index call.served call.stored call.store
-    (λ few. let bad : ended.Failed ≡ ended.None = sym c.in-Failed.is ∙ call.some few in cc) (call.failed c.in-Failed.is) (call.blamed c.in-Failed.is) c.in-Failed.ensures.passes) tt (λ paged. (tt, tt)) (call.loans ∙ c.begin-in-Io.ensures.starts.loans)
+    (io-failed g.G.PageStore c.complete.new.self c.requires.can.next c.begin-in-Io.ensures.starts call.contents refl c.in-Io.index call.done.served call.done.stored call.done.store
+    (λ few. let bad : ended.Failed ≡ ended.None = sym c.in-Failed.is ∙ call.done.some few in cc) (call.done.failed c.in-Failed.is) (call.done.blamed c.in-Failed.is) c.in-Failed.ensures.passes) tt (λ paged. (tt, tt)) (call.loans ∙ c.begin-in-Io.ensures.starts.loans)
 
 pub returns-else-fails_taken-ge-MOST_FAILS : goal.returns-else-fails_taken-ge-MOST_FAILS
 returns-else-fails_taken-ge-MOST_FAILS g c =

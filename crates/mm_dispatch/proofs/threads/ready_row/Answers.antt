@@ -21,8 +21,8 @@ keeps g c =
     let p = g.G.PageStore in
     let x = c.args.g.now in
     let y = c.start.new.self in
-    keeps_start c.args.t.now (p.contents x) (p.contents y) (p.store x) (p.store y) c.start.ensures.contents c.start.ensures.store
-    c.place_of.result (place_at c.args.pid (page_of c.args.addr)) c.in-Ok.row.key c.place_of.ensures c.requires.can.keeps c.in-Ok.ensures.at c.start.ensures.names
+    keeps_start c.args.t.now (p.contents x) (p.contents y) (p.store x) (p.store y) c.start.ensures.contents c.start.ensures.done.store
+    c.place_of.result (place_at c.args.pid (page_of c.args.addr)) c.in-Ok.row.key c.place_of.ensures c.requires.can.keeps c.in-Ok.ensures.at c.start.ensures.done.names
 
 pub returns-in-Err-clause-turned : goal.returns-in-Err-clause-turned
 returns-in-Err-clause-turned g c = λ what is.
@@ -44,9 +44,9 @@ returns-in-Pending-clause-turned g c = λ what is.
     let why = c.in-Pending.why in
     let keeps-after = subst (λ (t : Tables). KeepsOver p t y) (sym c.in-Ok.ensures.unchanged) (keeps g after) in
     turns-waiting p what c.args.tid.0 c.args.pid c.args.addr c.args.failed c.args.t.now x c.args.wanted c.in-Ok.row is c.admit.new.t c.in-Ok.ensures.unchanged y c.in-Ok.ensures.admitted keeps-after
-    c.start.ensures.contents c.start.ensures.store why c.if-failed.false
-    ((λ i. pending (sym c.requires.can.keeps.fits.machine i).depth (sym (needs g after) i) (p.store x).report (p.store y).report) ∙ asked.pending why refl)
-    (λ reads. asked.awaited (ap (λ (x : Why). start.Pending x) reads)) (λ never. let bad = asked.unpaged never in cc) c.start.ensures.loans
+    c.start.ensures.contents c.start.ensures.done.store why c.if-failed.false
+    ((λ i. pending (sym c.requires.can.keeps.fits.machine i).depth (sym (needs g after) i) (p.store x).report (p.store y).report) ∙ asked.done.pending why refl)
+    (λ reads. asked.done.awaited (ap (λ (x : Why). start.Pending x) reads)) (λ never. let bad = asked.done.unpaged never in cc) c.start.ensures.loans
     (subst (λ (a : Aim). PassesOver p (Starts a c.args.tid.0 (start.Pending why)) x y) (λ i. aim_for p (c.place_of.ensures i) (needs g after i) (is_write_attempt what) x) (asked.passes (is_write_attempt what)))
 
 pub returns-in-Ready-clause-ready : goal.returns-in-Ready-clause-ready
@@ -57,16 +57,16 @@ returns-in-Ready-clause-ready g c =
     let y = c.start.new.self in
     let asked = c.in-Ready.ensures in
     let at = place_at c.args.pid (page_of c.args.addr) in
-    let ready : IsReady (p.store y) at (row_need c.args.wanted c.in-Ok.row at) = asked.ready refl ∙ (λ i. Some (record { place = c.place_of.ensures i; need = needs g after i })) in
+    let ready : IsReady (p.store y) at (row_need c.args.wanted c.in-Ok.row at) = asked.done.ready refl ∙ (λ i. Some (record { place = c.place_of.ensures i; need = needs g after i })) in
     record {
-      can = can-go-on p _ c.args.t.now c.admit.new.t _ _ _ _ x y c.in-Ok.ensures.unchanged c.requires.can c.sound.ensures.sound.spaces c.in-Ok.ensures.admitted c.in-Ok.ensures.at c.start.ensures.store (keeps g after) ready;
+      can = can-go-on p _ c.args.t.now c.admit.new.t _ _ _ _ x y c.in-Ok.ensures.unchanged c.requires.can c.sound.ensures.sound.spaces c.in-Ok.ensures.admitted c.in-Ok.ensures.at c.start.ensures.done.store (keeps g after) ready;
       admitted = c.in-Ok.ensures.admitted;
       same = c.in-Ok.ensures.unchanged;
       fine = c.if-failed.false;
       contents = c.start.ensures.contents;
-      store = c.start.ensures.store;
+      store = c.start.ensures.done.store;
       ready = ready;
-      at_once = ap (λ (m : MachineOf). waits_at_once m.depth c.in-Ok.row.key (p.store x).report) (sym c.requires.can.keeps.fits.machine) ∙ asked.at_once refl;
+      at_once = ap (λ (m : MachineOf). waits_at_once m.depth c.in-Ok.row.key (p.store x).report) (sym c.requires.can.keeps.fits.machine) ∙ asked.done.at_once refl;
       thread = in_thread p.unpaged (p.contents x) (p.store x) (p.behind x) c.args.pid c.sound-2.ensures.stands c.requires.can.form;
       passes = λ writes. subst (λ (a : Aim). PassesOver p (Starts a c.args.tid.0 start.Ready) x y) (λ i. aim_for p (c.place_of.ensures i) (needs g after i) writes x) (asked.passes writes);
       loans = c.start.ensures.loans;

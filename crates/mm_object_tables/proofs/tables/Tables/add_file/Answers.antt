@@ -1,4 +1,4 @@
-use Rattle.std.proofs.Common.{◌≡◌, ◌+◌, ◌++◌, ◌∷◌, [], ℕ, Option, Some, None, true, refl, sym, ◌∙◌, ap, subst, length, arith}
+use Rattle.std.proofs.Common.{rules, ◌≡◌, ◌+◌, ◌++◌, ◌∷◌, [], ℕ, Option, Some, None, true, refl, sym, ◌∙◌, ap, subst, length, arith}
 use Rattle.std.specs.Prelude.{◌==◌, Err, find, bytes_eq}
 use Rattle.mm_types.specs.{Key}
 use Rattle.mm_world.specs.{Tables}
@@ -59,10 +59,19 @@ returns-in-Err-clause-notes g c = record {
   loans = refl;
 }
 
-pub make_file-requires-clause-new : goal.make_file-requires-clause-new
-make_file-requires-clause-new g c =
+pub make_file-requires : goal.make_file-requires
+make_file-requires g c =
     let at : c.len.result ≡ length c.args.self.now.areas = omega (arith, c.len.ensures, c.self.inside.areas.ok.0, ap (λ (t : Tables). length t.areas) c.self.view_is) in
-    area_free c.args.self.now (g.G.PageStore.contents c.args.g.now) (g.G.PageStore.store c.args.g.now) c.len.result c.requires.fits at
+    record {
+      may = record {
+        new = area_free c.args.self.now (g.G.PageStore.contents c.args.g.now) (g.G.PageStore.store c.args.g.now) c.len.result c.requires.fits at;
+        few = search rules;
+        next = search rules;
+        some = search rules;
+        room = search rules;
+        kind = search rules;
+      };
+    }
 
 pub list_file-requires-clause-unnamed : goal.list_file-requires-clause-unnamed
 list_file-requires-clause-unnamed g c =
@@ -78,7 +87,7 @@ returns-in-Err-make_file-clause-files g c = record {
   ok = tt;
   err = same_tables c.self.inside refl c.grow_for_file-grown.ensures.listed.entries c.grow_for_file-grown.ensures.areas c.grow_for_file-grown.ensures.listed.files c.self.view_is;
   made = tt;
-  kept = c.in-Err-make_file.ensures.kept;
+  kept = c.in-Err-make_file.ensures.done.kept;
 }
 
 pub returns-in-Err-make_file-clause-stored : goal.returns-in-Err-make_file-clause-stored
@@ -88,18 +97,18 @@ returns-in-Err-make_file-clause-stored g c =
     let z = g.G.PageStore.store c.make_file.new.self in
     record {
       fits = subst (λ (t : Tables). FitsTables t new z) (sym same)
-          (fits_wrote c.args.self.now (g.G.PageStore.contents c.args.g.now) new (g.G.PageStore.store c.args.g.now) z c.requires.fits c.in-Err-make_file.ensures.kept c.in-Err-make_file.ensures.err
-          c.in-Err-make_file.ensures.stored c.in-Err-make_file.ensures.served);
-      beside = beside (g.G.PageStore.store c.args.g.now) z (g.G.PageStore.store c.args.g.now).areas (g.G.PageStore.store c.args.g.now).block_of (g.G.PageStore.store c.args.g.now).blocks_used c.in-Err-make_file.ensures.err;
-      memory = c.in-Err-make_file.ensures.memory;
-      served = c.in-Err-make_file.ensures.served;
+          (fits_wrote c.args.self.now (g.G.PageStore.contents c.args.g.now) new (g.G.PageStore.store c.args.g.now) z c.requires.fits c.in-Err-make_file.ensures.done.kept c.in-Err-make_file.ensures.done.err
+          c.in-Err-make_file.ensures.done.wrote.stored c.in-Err-make_file.ensures.done.wrote.served);
+      beside = beside (g.G.PageStore.store c.args.g.now) z (g.G.PageStore.store c.args.g.now).areas (g.G.PageStore.store c.args.g.now).block_of (g.G.PageStore.store c.args.g.now).blocks_used c.in-Err-make_file.ensures.done.err;
+      memory = c.in-Err-make_file.ensures.done.memory;
+      served = c.in-Err-make_file.ensures.done.wrote.served;
     }
 
 pub returns-in-Err-make_file-clause-fails : goal.returns-in-Err-make_file-clause-fails
 returns-in-Err-make_file-clause-fails g c = record {
   quiet = tt;
-  failed = c.in-Err-make_file.ensures.failed;
-  blamed = c.in-Err-make_file.ensures.blamed;
+  failed = c.in-Err-make_file.ensures.done.wrote.failed;
+  blamed = c.in-Err-make_file.ensures.done.wrote.blamed;
 }
 
 pub returns-in-Err-make_file-clause-notes : goal.returns-in-Err-make_file-clause-notes
@@ -123,7 +132,7 @@ returns-in-Ok-make_file-clause-files g c =
       ok = file_now c.self.inside c.args.name c.args.pages c.args.byte c.self.view_is (c.list_file.ensures.entries ∙ c.grow_for_file-grown.ensures.listed.entries) (areas_are g c) (files_are g c)
           c.requires.new.some c.requires.new.unnamed c.requires.new.room;
       err = tt;
-      made = c.in-Ok-make_file.ensures.made ∙ ap (λ (k : ℕ). with_file k c.args.pages c.args.byte (g.G.PageStore.contents c.args.g.now)) at;
+      made = c.in-Ok-make_file.ensures.done.made ∙ ap (λ (k : ℕ). with_file k c.args.pages c.args.byte (g.G.PageStore.contents c.args.g.now)) at;
       kept = tt;
     }
 
@@ -135,17 +144,17 @@ returns-in-Ok-make_file-clause-stored g c =
       fits = file_fits c.self.inside c.args.name c.args.pages c.args.byte c.self.view_is (c.list_file.ensures.entries ∙ c.grow_for_file-grown.ensures.listed.entries) (areas_are g c) (files_are g c)
           c.requires.new.some c.requires.new.unnamed c.requires.new.room
           c.len.result (g.G.PageStore.contents c.args.g.now) (g.G.PageStore.contents c.make_file.new.self) s z c.requires.fits (at_end g c)
-          c.in-Ok-make_file.ensures.made c.in-Ok-make_file.ensures.ok c.in-Ok-make_file.ensures.stored c.in-Ok-make_file.ensures.served;
-      beside = beside s z (changed ◌==◌ s.areas c.len.result (Some c.args.pages)) (with_blocks c.len.result c.args.pages c.self.inside.blocks_used s.block_of) (s.blocks_used + c.args.pages) c.in-Ok-make_file.ensures.ok;
-      memory = c.in-Ok-make_file.ensures.memory;
-      served = c.in-Ok-make_file.ensures.served;
+          c.in-Ok-make_file.ensures.done.made c.in-Ok-make_file.ensures.done.ok c.in-Ok-make_file.ensures.done.wrote.stored c.in-Ok-make_file.ensures.done.wrote.served;
+      beside = beside s z (changed ◌==◌ s.areas c.len.result (Some c.args.pages)) (with_blocks c.len.result c.args.pages c.self.inside.blocks_used s.block_of) (s.blocks_used + c.args.pages) c.in-Ok-make_file.ensures.done.ok;
+      memory = c.in-Ok-make_file.ensures.done.memory;
+      served = c.in-Ok-make_file.ensures.done.wrote.served;
     }
 
 pub returns-in-Ok-make_file-clause-fails : goal.returns-in-Ok-make_file-clause-fails
 returns-in-Ok-make_file-clause-fails g c = record {
-  quiet = c.in-Ok-make_file.ensures.quiet;
-  failed = c.in-Ok-make_file.ensures.failed;
-  blamed = c.in-Ok-make_file.ensures.blamed;
+  quiet = c.in-Ok-make_file.ensures.done.wrote.quiet;
+  failed = c.in-Ok-make_file.ensures.done.wrote.failed;
+  blamed = c.in-Ok-make_file.ensures.done.wrote.blamed;
 }
 
 pub returns-in-Ok-make_file-clause-notes : goal.returns-in-Ok-make_file-clause-notes

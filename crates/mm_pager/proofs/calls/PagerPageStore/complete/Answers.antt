@@ -17,14 +17,16 @@ returns g c =
     let done = completes i r s z ends in
     record {
       contents = ap (λ (x : StateOf). x.contents) done.1.same;
-      store = ended_store done.0 s z o done.1 h (g.met.T.StateCalls.holds c.complete_request.new.state);
-      none = ended_none i r s z o ends;
-      some = ended_some i r s z c.requires.some ends;
-      ok = ended_ok i r s z o ends;
-      failed = λ q. (ended_blames i r s z h ends q).failed;
-      blamed = λ q. (ended_blames i r s z h ends q).fault;
-      served = ended_served done.0 s z o done.1;
-      stored = stored_same s z done.1.life h (g.met.T.StateCalls.holds c.complete_request.new.state);
+      done = record {
+        store = ended_store done.0 s z o done.1 h (g.met.T.StateCalls.holds c.complete_request.new.state);
+        none = ended_none i r s z o ends;
+        some = ended_some i r s z c.requires.some ends;
+        ok = ended_ok i r s z o ends;
+        failed = λ q. (ended_blames i r s z h ends q).failed;
+        blamed = λ q. (ended_blames i r s z h ends q).fault;
+        served = ended_served done.0 s z o done.1;
+        stored = stored_same s z done.1.life h (g.met.T.StateCalls.holds c.complete_request.new.state);
+      };
       passes = ended_passes i r s z o ends;
       loans = c.complete_request.ensures.loans;
     }

@@ -27,14 +27,18 @@ returns g c =
     let flushing = flushing_of k ok s z c.requires.live c.flush_page.ensures.flushed in
     let page = flushing.page in
     record {
-      store = flushed_store k flushing.block ok s z o h w page;
-      ok = on_ok_if r (λ e. its_bytes k ok s z w flushing e);
-      others = its_others k ok s z flushing;
-      served = flushed_served k flushing.block ok s z o page;
-      stored = stored_same s z page.writes.life h w;
-      quiet = on_ok_if r page.writes.device.quiet;
-      failed = on_err_if r page.writes.device.failed;
-      blamed = on_err_if r page.writes.device.blamed;
+      done = record {
+        store = flushed_store k flushing.block ok s z o h w page;
+        ok = on_ok_if r (λ e. its_bytes k ok s z w flushing e);
+        others = its_others k ok s z flushing;
+        wrote = record {
+          served = flushed_served k flushing.block ok s z o page;
+          stored = stored_same s z page.writes.life h w;
+          quiet = on_ok_if r page.writes.device.quiet;
+          failed = on_err_if r page.writes.device.failed;
+          blamed = on_err_if r page.writes.device.blamed;
+        };
+      };
       contents = ap (λ (x : StateOf). x.contents) page.writes.same;
       passes = flushed_passes k flushing.block ok s z o page;
       loans = c.flush_page.ensures.loans;

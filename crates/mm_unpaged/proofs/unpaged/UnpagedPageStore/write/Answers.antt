@@ -1,4 +1,4 @@
-use Rattle.std.proofs.Common.{Some, ap, ◌∙◌}
+use Rattle.std.proofs.Common.{rules, Some, ap, ◌∙◌}
 use Rattle.mm_store.specs.{StoreOf}
 use Rattle.mm_move_rules.specs.{same_place}
 use Rattle.mm_move_rules.specs.{changed}
@@ -7,19 +7,28 @@ use Rattle.mm_unpaged.proofs.{eased_named, fetched_named, named_after, served_na
 use Rattle.mm_unpaged.proofs.unpaged.UnpagedPageStore.write.Goals as goal
 
 pub name_place-requires : goal.name_place-requires
-name_place-requires g c = ap (λ (t : StoreOf). t.bound c.args.place) c.write_page.ensures.store ∙ c.requires.at.bound
+name_place-requires g c = ap (λ (t : StoreOf). t.bound c.args.place) c.write_page.ensures.store ∙ c.requires.may.at.bound
 
 pub returns-clause-written : goal.returns-clause-written
 returns-clause-written g c = c.name_place.ensures.contents ∙ c.write_page.ensures.contents
 
-pub returns-clause-ok : goal.returns-clause-ok
-returns-clause-ok g c = let s = c.args.self.now in fetched_named (store_in s) (store_in c.name_place.new.self) (changed same_place (names_in s.places) c.args.place (Some c.args.key)) (named_after _ _ _ c.args.place c.args.key c.write_page.ensures.store c.name_place.ensures.store)
-
-pub returns-clause-served : goal.returns-clause-served
-returns-clause-served g c = served_named _ _ _ (named_after _ _ _ c.args.place c.args.key c.write_page.ensures.store c.name_place.ensures.store)
-
-pub returns-clause-eased : goal.returns-clause-eased
-returns-clause-eased g c ready = let s = c.args.self.now in eased_named (store_in s) (store_in c.name_place.new.self) (changed same_place (names_in s.places) c.args.place (Some c.args.key)) (named_after _ _ _ c.args.place c.args.key c.write_page.ensures.store c.name_place.ensures.store)
-
-pub returns-clause-fault : goal.returns-clause-fault
-returns-clause-fault g c begun = touch_ends c.args.key _ (contents_in c.name_place.new.self) (written_live (contents_in c.args.self.now) (contents_in c.name_place.new.self) c.args.key _ (c.name_place.ensures.contents ∙ c.write_page.ensures.contents) c.requires.at.live)
+pub returns-clause-done : goal.returns-clause-done
+returns-clause-done g c =
+    let s = c.args.self.now in
+    let names = changed same_place (names_in s.places) c.args.place (Some c.args.key) in
+    let named = named_after _ _ _ c.args.place c.args.key c.write_page.ensures.store c.name_place.ensures.store in
+    record {
+      ok = fetched_named (store_in s) (store_in c.name_place.new.self) names named;
+      err = tt;
+      answered = record {
+        served = served_named _ _ _ named;
+        stored = search rules;
+        fault = λ begun. touch_ends c.args.key _ (contents_in c.name_place.new.self) (written_live (contents_in s) (contents_in c.name_place.new.self) c.args.key _ (c.name_place.ensures.contents ∙ c.write_page.ensures.contents) c.requires.may.at.live);
+        causes = search rules;
+        blamed = tt;
+        was_ready = search rules;
+        unpaged = search rules;
+      };
+      eased = λ ready. eased_named (store_in s) (store_in c.name_place.new.self) names named;
+      passes = search rules;
+    }
