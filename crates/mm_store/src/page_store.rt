@@ -1,9 +1,9 @@
 ghost use Rattle.std.specs.Prelude.{◌≡◌, ◌≤◌, ◌<◌, ◌+◌, ◌-◌, ◌^◌, ◌==◌, ℕ, Bool, true, false, Option, Some, None, IsSome, IsOk, is_ok, OnOk, OnErr, length, take, drop, unwrap_or};
 ghost use Rattle.mm_types.specs.declared.devices.Device.TheVariants as device_of;
 ghost use Rattle.mm_types.specs.declared.moves.LineKind.TheVariants as kind;
-ghost use Rattle.mm_types.specs.{Key, Place, are_user_pages, limit_of, Loans, Why};
+ghost use Rattle.mm_types.specs.{Key, Place, are_user_pages, limit_of, Loans};
 ghost use Rattle.mm_types.specs.declared.numbers.Key.TheVariants.{Private, Shared};
-ghost use Rattle.mm_world.specs.{Page, filled, written, same_key, most_slots, pending};
+ghost use Rattle.mm_world.specs.{Page, filled, written, same_key, most_slots};
 ghost use Rattle.mm_types.specs.declared.moves.Move.TheVariants as move;
 ghost use Rattle.mm_types.specs.declared.answers.Wait.TheVariants as wait_of;
 ghost use Rattle.mm_store.specs.declared.outcomes.Need.TheVariants as wanted;
@@ -11,12 +11,12 @@ ghost use Rattle.mm_store.specs.Behind.{Behind};
 ghost use Rattle.mm_store.specs.Standing.{StandsIn};
 ghost use Rattle.mm_store.specs.Methods.{UsableAt, Accessed, PageCopied, BlockFlushed, MayMakeFile, NewFile, Begins, RequestEnded, PagingGrown};
 ghost use Rattle.mm_store.specs.Passing.{PassesIn, NotesIn, FileMade};
-ghost use Rattle.mm_store.specs.Accesses.{Copies, Starts, Forgets};
+ghost use Rattle.mm_store.specs.Accesses.{Starts, Forgets};
 ghost use Rattle.mm_store.specs.Housekeeping.{Turn, Makes, MakesFrom, key_number, Ends as Ending, Turns, OneMove, Trims, AgesAll, Clears, WritesOut, CompletesAs, GrowsAs, FlushesPage};
 ghost use Rattle.mm_store.specs.Leaving.{Leaving};
 ghost use Rattle.mm_store.specs.Store.{StoreOf, changed_in, unnamed, own_key};
 ghost use Rattle.mm_move_rules.specs.{changed};
-ghost use Rattle.mm_store.specs.Reports.{begun, rearranged, called, with_named, with_named_paging};
+ghost use Rattle.mm_store.specs.Reports.{begun, rearranged, with_named, with_named_paging};
 ghost use Rattle.mm_store.specs.Conditions.{IsLineKind, pid_after, AllBound, MayUnbind, HasHome, MayRemove, IsAt, MayName, touch, copying, place_at, need_for, AreAmong, IsAmong};
 
 use crate::outcomes::{Done, Need, Start};

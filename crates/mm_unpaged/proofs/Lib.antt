@@ -16,7 +16,7 @@ pub use OpenAreas.{has_place, in_file, live_place, live_within, none_at, none_li
 pub use OpenAreas.{pushed, set_area}
 pub use Openings.{at_place, blocks_new, closed, contents_new, contents_settled, dead_count}
 pub use Openings.{file_opened, file_written, files_fit_made, home_near, in_area, live_near}
-pub use Openings.{none_counted, on_ok, opened, opened_or_not, own_live, page_got, page_here}
+pub use Openings.{file_got, none_counted, on_ok, opened, opened_or_not, own_live, page_got, page_here}
 pub use Openings.{paging_new, shown_by}
 pub use StoredFiles.{failed_write, none_failed, stored_more, wrote_one, wrote_then}
 pub use Stores.{copied_from, copied_to, copy_ends, eased_named, fetched_named, grown, named_after}

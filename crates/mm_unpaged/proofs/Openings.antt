@@ -263,10 +263,13 @@ contents_settled places areas files after b is = ap (unpaged_contents places are
     at (Shared a j) = here (area_block (areas a.0) j) (page_of_area (areas a.0) j)
 
 -- the page that stands at a block
+pub file_got : (fs : List FilePage) (b : ℕ) (here : FilePage) → b < length fs → here ≡ slice_index_or fs b here → slice_get fs b ≡ Some here
+file_got [] b here h e = absurd (omega arith)
+file_got (f ∷ fs) zero here h e = ap Some (sym e)
+file_got (f ∷ fs) (suc b) here h e = file_got fs b here (omega arith) e
+
 pub page_got : (fs : List FilePage) (b : ℕ) (here : FilePage) → b < length fs → here ≡ slice_index_or fs b here → page_of_block (slice_get fs b) ≡ Some here.page
-page_got [] b here h e = absurd (omega arith)
-page_got (f ∷ fs) zero here h e = ap (λ (x : FilePage). Some x.page) (sym e)
-page_got (f ∷ fs) (suc b) here h e = page_got fs b here (omega arith) e
+page_got fs b here h e = ap page_of_block (file_got fs b here h e)
 
 pub page_here : (fs : List FilePage) (b : ℕ) (here : FilePage) → b < length fs → here ≡ slice_index_or fs b here → here.page ≡ page_in fs b
 page_here fs b here h e = sym (ap (λ o. unwrap_or o (filled 0)) (page_got fs b here h e))

@@ -1,16 +1,10 @@
-use Rattle.std.proofs.Common.{rules, ◌≡◌, ◌<◌, ℕ, zero, suc, List, [], ◌∷◌, length, ◌∙◌, Some, false, refl, sym, ap, arith}
-use Rattle.std.specs.Prelude.{is_ok, slice_get, slice_set, slice_index_or}
+use Rattle.std.proofs.Common.{rules, ◌≡◌, ◌∙◌, Some, false, refl, sym, ap, arith}
+use Rattle.std.specs.Prelude.{is_ok, slice_get, slice_set}
 use Rattle.mm_types.proofs.{get_set_other, get_set_same}
 use Rattle.mm_store.proofs.{served_nothing, served_writes}
-use Rattle.mm_unpaged.specs.declared.files.FilePage.{FilePage}
 use Rattle.mm_unpaged.specs.{area_in, area_block, blocks_of, page_in, pages_at}
-use Rattle.mm_unpaged.proofs.{files_fit_settled, contents_settled, page_got, page_here, shown_by, wrote_one}
+use Rattle.mm_unpaged.proofs.{file_got, files_fit_settled, contents_settled, page_got, page_here, shown_by, wrote_one}
 use Rattle.mm_unpaged.proofs.unpaged.UnpagedPageStore.flush.Goals as goal
-
-got : (fs : List FilePage) (b : ℕ) (here : FilePage) → b < length fs → here ≡ slice_index_or fs b here → slice_get fs b ≡ Some here
-got [] b here h e = absurd (omega arith)
-got (f ∷ fs) zero here h e = ap Some (sym e)
-got (f ∷ fs) (suc b) here h e = got fs b here (omega arith) e
 
 -- the page was not changed: its block holds it
 pub returns-then-not-index-clause-done : goal.returns-then-not-index-clause-done
@@ -28,7 +22,7 @@ returns-then-not-index-clause-done g c =
       ok = λ block at.
           let some : Some block ≡ Some b = sym at ∙ ap (blocks_of (area_in s.areas)) c.in-Shared.is ∙ there in
           let same : block ≡ b = cc in
-          ap (slice_get blocks) same ∙ fit.kept b page (got s.file_pages.items b page near c.index.ensures) plain
+          ap (slice_get blocks) same ∙ fit.kept b page (file_got s.file_pages.items b page near c.index.ensures) plain
           ∙ sym (page_got s.file_pages.items b _ near c.index.ensures) ∙ shown_by s c.in-Shared.is there;
       others = λ block other at apart. refl;
       wrote = record {
