@@ -313,6 +313,8 @@ SPOILS = [
           edited("web/page.html", "<html", "<html  "), "web/pack --check"),
     Spoil("page", "an mmshow that writes one more byte",
           piped("mmshow", "html*", "s/^<title>/<title> /"), "the page's bytes"),
+    Spoil("page", "an mmshow that packs a write of a script as one of another process",
+          piped("mmshow", "html*", "s/^L\\([=-~]\\)/K\\1/"), "the page's bytes"),
     Spoil("traces", "a number of a stored table",
           edited("examples/sort.table", "49,274", "49,275"), "examples/sort.table"),
     Spoil("traces", "a stored script",
